@@ -1,0 +1,13 @@
+use mathlib.Core.Path.{_∙_}
+use mathlib.Core.Bool.{false}
+use native.Mathlib.Omega.{arith}
+use borrow.Author.Count.{below-more}
+use Rattle.std.proofs.shelf.Lists.{getD-set-same, getD-set-other}
+use Rattle.side.specs.Sides.{blank}
+use Rattle.side.proofs.fill.Needs as need
+
+pub loop-p-again : need.loop-p-again
+loop-p-again c =
+    let a = c .loop-p .all in
+    let p = c .loop-p .p in
+    below-more _ _ (λ k h. getD-set-other a p k _ blank (omega arith) ∙ c .loop-p .inv k h) (getD-set-same a p _ blank (omega arith))
