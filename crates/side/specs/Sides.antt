@@ -26,7 +26,7 @@ abbrev pub blank : List ℕ
 blank = replicate 64 0
 
 -- How many pages there is memory for, 4096 at most; none where the row has no room for 64 letters or the kept letters none for 128.
-abbrev pub sizeOf : Side → ℕ
+unfoldable pub sizeOf : Side → ℕ
 sizeOf s = min (min (min (length (now (s .pages))) (length (now (s .touched)))) 4096) (min ((roomOf (s .row) - 63) * 4096) ((roomOf (s .kept) - 127) * 4096))
 
 -- The host with the first n pages; past them all pages are blank.

@@ -3,10 +3,11 @@ use mathlib.Core.Bool.{false}
 use native.Mathlib.Omega.{arith}
 use borrow.Author.Needs.{needs}
 use Rattle.std.proofs.shelf.Lists.{getD-take}
-use Rattle.side.specs.Sides.{blank}
+use Rattle.side.specs.Sides.{sizeOf, blank}
 use Rattle.side.proofs.Side.fall.Needs as need
 
 pub returns : need.returns
+unfolding sizeOf
 returns c =
     record {
       size = search needs;

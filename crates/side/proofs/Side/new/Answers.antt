@@ -1,9 +1,11 @@
 use mathlib.Core.Path.{refl}
 use native.Mathlib.Omega.{arith}
+use Rattle.side.specs.Sides.{sizeOf}
 use Rattle.side.proofs.Puts.{zeros}
 use Rattle.side.proofs.Side.new.Needs as need
 
 pub returns : need.returns
+unfolding sizeOf
 returns c =
     record {
       fresh = record {

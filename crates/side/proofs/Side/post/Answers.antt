@@ -6,15 +6,17 @@ use lib.ListN.{length}
 use Rattle.std.proofs.shelf.Tests.{true≢false}
 use Rattle.moving.specs.Hosts.{taken}
 use Rattle.queue.specs.Queues.{lettersOf, roomOf}
-use Rattle.side.specs.Sides.{host, linkBy}
+use Rattle.side.specs.Sides.{sizeOf, host, linkBy}
 use Rattle.side.proofs.Side.post.Needs as need
 
 pub returns-then-lost : need.returns-then-lost
+unfolding sizeOf
 returns-then-lost c =
     let m = c .note .ensures in
     record { among = m .among; link = m .link; loses = λ _. refl; takes = λ f. absurd (true≢false (sym (c .if-lost .taken) ∙ f)); keeps = m .is }
 
 pub returns : need.returns
+unfolding sizeOf
 returns c =
     let s = c .args .self .now in
     let m = c .note .last .self in
