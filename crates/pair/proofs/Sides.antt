@@ -15,7 +15,7 @@ use Rattle.queue.specs.Queues.{lettersOf}
 use Rattle.side.specs.declared.Who.{Who}
 use Rattle.side.specs.declared.Who.the-variants.{Zero, One}
 use Rattle.side.specs.declared.Side.{Side}
-use Rattle.side.specs.Sides.{numb, blank, sizeOf, host, Turns, linkBy, Linked, Posted, Nexts, Fell}
+use Rattle.side.specs.Sides.{numb, blank, sizeOf, host, Turns, Posted, Nexts, Fell}
 use Rattle.pair.specs.declared.Pair.{Pair}
 use Rattle.pair.specs.Worlds.{both, room, worldOf, DroppedWith, FallenWith, PostedIn, NextIn}
 
@@ -67,15 +67,6 @@ pub one-turns : (k : ℕ) (h : Pair) (v : Who) (f : Host → Host) (z : Side) �
 one-turns k h v f z e t le =
     one-is h z (f (host (room h) (h .one))) (t .size) (t .is (room h) le (omega arith))
     ∙ ap (λ w. withHost (numb w) (f (worldOf h .host (numb w))) (worldOf h)) (sym e)
-
--- its letters are others
-pub zero-linked : (h : Pair) (v : Who) (z : Side) (r o : List (List ℕ)) → v ≡ Zero → Linked (h .zero) r o z → worldOf (withZero z h) ≡ withLink (numb v) r o (worldOf h)
-zero-linked h v z r o e l =
-    zero-is h z (linkBy r o (host (room h) (h .zero))) (l .size) (l .is (room h)) ∙ ap (λ w. withLink (numb w) r o (worldOf h)) (sym e)
-
-pub one-linked : (h : Pair) (v : Who) (z : Side) (r o : List (List ℕ)) → v ≡ One → Linked (h .one) r o z → worldOf (withOne z h) ≡ withLink (numb v) r o (worldOf h)
-one-linked h v z r o e l =
-    one-is h z (linkBy r o (host (room h) (h .one))) (l .size) (l .is (room h)) ∙ ap (λ w. withLink (numb w) r o (worldOf h)) (sym e)
 
 -- a letter was posted to it
 pub zero-posted : (h : Pair) (a b : Bool) (l : List ℕ) (r : Bool) (z : Side) → h .turn ≡ One → Posted a b (h .zero) l r z → PostedIn a b (other (worldOf h)) (worldOf h) l r (worldOf (withZero z h))
