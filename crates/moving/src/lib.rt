@@ -23,6 +23,7 @@ pub trait Place {
     fn page(&mut self, p: u32, into: &mut [u64]) -> Result<(), Down>
         requires { ⌜ 0 < world (now self) .left ⌝ ∗ ⌜ p < world (now self) .pages ⌝ ∗ ⌜ length (now into) ≡ 64 ⌝ }
         ensures { λ r. ⌜ Does (world (now (self .entry))) (world (now (self .entry))) (isOk r) (world (now (self .exit))) ⌝ ∗ ⌜ (isOk r ≡ true → now (into .exit) ≡ me (world (now (self .entry))) .page p) ⌝ };
+
     fn put(&mut self, p: u32, words: &[u64]) -> Result<(), Down>
         requires { ⌜ 0 < world (now self) .left ⌝ ∗ ⌜ p < world (now self) .pages ⌝ ∗ ⌜ length (now words) ≡ 64 ⌝ ∗ ⌜ MayPut (world (now self)) ⌝ }
         ensures { λ r. ⌜ Does (world (now (self .entry))) (putPage p (now (words .entry)) (world (now (self .entry)))) (isOk r) (world (now (self .exit))) ⌝ };
@@ -46,6 +47,7 @@ pub trait Place {
     fn get(&mut self, c: u32) -> Result<u64, Down>
         requires { ⌜ 0 < world (now self) .left ⌝ ∗ ⌜ c < 64 ⌝ }
         ensures { λ r. ⌜ Does (world (now (self .entry))) (world (now (self .entry))) (isOk r) (world (now (self .exit))) ⌝ ∗ ⌜ (isOk r ≡ true → r ≡ Ok (me (world (now (self .entry))) .cell c)) ⌝ };
+
     fn keep(&mut self, c: u32, x: u64) -> Result<(), Down>
         requires { ⌜ 0 < world (now self) .left ⌝ ∗ ⌜ c < 64 ⌝ }
         ensures { λ r. ⌜ Does (world (now (self .entry))) (kept c x (world (now (self .entry)))) (isOk r) (world (now (self .exit))) ⌝ };
@@ -53,6 +55,7 @@ pub trait Place {
     fn send(&mut self, letter: &[u64]) -> Result<(), Down>
         requires { ⌜ 0 < world (now self) .left ⌝ ∗ ⌜ length (now letter) ≡ 72 ⌝ }
         ensures { λ r. ⌜ Posts (world (now (self .entry))) (now (letter .entry)) (isOk r) (world (now (self .exit))) ⌝ };
+
     fn recv(&mut self, into: &mut [u64]) -> Result<bool, Down>
         requires { ⌜ 0 < world (now self) .left ⌝ ∗ ⌜ length (now into) ≡ 72 ⌝ }
         ensures { λ r. ⌜ Gets (world (now (self .entry))) r (now (into .exit)) (world (now (self .exit))) ⌝ };
@@ -68,6 +71,7 @@ pub trait Sky: Place {
     fn renew(&mut self)
         requires { ⌜ world (now self) .fell ≡ true ⌝ }
         ensures { λ _. ⌜ world (now (self .exit)) ≡ renewed (world (now (self .entry))) ⌝ };
+
     fn between(&mut self)
         ensures { λ _. ⌜ Between (world (now (self .entry))) (world (now (self .exit))) ⌝ };
     // Both had a turn. That all is in time is the other promise.

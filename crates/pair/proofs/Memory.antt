@@ -17,6 +17,7 @@ use Rattle.side.specs.declared.Who.{Who}
 use Rattle.side.specs.declared.Who.the-variants.{Zero, One}
 use Rattle.side.specs.declared.Side.{Side}
 use Rattle.side.specs.Sides.{numb, blank, sizeOf, host, Fresh}
+use Rattle.side.proofs.Sizes.{size-pages}
 use Rattle.pair.specs.declared.Pair.{Pair}
 use Rattle.pair.specs.Worlds.{nobody, both, room, worldOf, withTruth, upTo}
 
@@ -75,10 +76,6 @@ fresh-side n s f le = (
     | inr ge ↦ ap length (past-page n (now (s .pages)) p ge)
   ],
 )
-
-size-pages : (n : ℕ) (s : Side) → n ≤ sizeOf s → n ≤ length (now (s .pages))
-unfolding sizeOf
-size-pages n s le = omega arith
 
 pub fresh-both : (n : ℕ) (a b : Side) → Fresh a → Fresh b → n ≤ sizeOf a → n ≤ sizeOf b → (i : ℕ) → Starts (both (host n a) (host n b) i)
 fresh-both n a b f g le ge i =

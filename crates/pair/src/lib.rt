@@ -261,6 +261,13 @@ impl<'a> Pair<'a> {
         }
     }
 
+    // Whether a letter is kept for host 1.
+    pub fn keeps_for_one(&self) -> bool
+        ensures { λ r. ⌜ r ≡ ltb 0 (length (worldOf (now (self .entry)) .host 1 .old)) ⌝ }
+    {
+        self.one.keeps()
+    }
+
     // The letters that wait for it are mixed up.
     pub fn mix(&mut self, how: Mix, i: usize)
         ensures { λ _. ⌜ worldOf (now (self .exit)) ≡ mixedIn how i (worldOf (now (self .entry)) .turn) (worldOf (now (self .entry))) ⌝ }
@@ -320,7 +327,8 @@ impl<'a> Pair<'a> {
 
     // Both had a turn.
     pub fn round(&mut self)
-        ensures { λ _. ⌜ (worldOf (now (self .entry)) .calm < 4294967295 → worldOf (now (self .entry)) .still < 4294967295 → worldOf (now (self .exit)) ≡ rounded (worldOf (now (self .entry)))) ⌝ }
+        ensures fell { λ _. ⌜ worldOf (now (self .exit)) .fell ≡ worldOf (now (self .entry)) .fell ⌝ }
+        ensures world { λ _. ⌜ (worldOf (now (self .entry)) .calm < 4294967295 → worldOf (now (self .entry)) .still < 4294967295 → worldOf (now (self .exit)) ≡ rounded (worldOf (now (self .entry)))) ⌝ }
     {
         let good = !self.rough & (self.busy <= 16);
         let wished = good & self.wish & !self.lost & !self.hurt;

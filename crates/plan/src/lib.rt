@@ -72,7 +72,8 @@ pub struct Wreck {
 fn step(x: u64) -> u64
     ensures { λ r. ⌜ r ≡ stepped x ⌝ }
 {
-    x.wrapping_mul(6364136223846793005).wrapping_add(1442695040888963407)
+    x.wrapping_mul(6364136223846793005)
+        .wrapping_add(1442695040888963407)
 }
 
 fn draw(random: bool, x: u64) -> u64
@@ -242,7 +243,11 @@ impl Plan {
     pub fn write_on(&self, pages: u32) -> Option<Write>
         ensures { λ r. ⌜ r ≡ writeOf (now (self .entry)) pages ⌝ }
     {
-        page(self.random & (part(self.word, 65536, 16) >= 14), self.word, pages)
+        page(
+            self.random & (part(self.word, 65536, 16) >= 14),
+            self.word,
+            pages,
+        )
     }
 
     // Between rounds: whether somebody wants the guest to be moved.
@@ -267,7 +272,11 @@ impl Plan {
                 self.write = None;
                 Some(write)
             }
-            None => page(self.random & (part(self.word, 65536, 16) >= 8), self.word, pages),
+            None => page(
+                self.random & (part(self.word, 65536, 16) >= 8),
+                self.word,
+                pages,
+            ),
         }
     }
 }

@@ -4,15 +4,16 @@ use mathlib.Core.Path.{_≡_, refl, sym, _∙_, ap, subst}
 use mathlib.Core.Bool.{Bool, true, false, cond}
 use mathlib.Core.List.{List, [], _∷_, _++_, List·Memᴰ, List·Memᴰ·head, List·Memᴰ·tail, List·Memᴰ·append-cases, List·Memᴰ·eq-of-singleton}
 use mathlib.Core.Logic.{_⊎_, inl, inr}
-use Prim.Native.Nat.{ℕ, zero, suc, _<_, _≤_, _+_, _-_}
+use Prim.Native.Nat.{ℕ, zero, suc, _<_, _≤_, _+_, _-_, _%_}
+use native.Mathlib.Nat.{mod-lt}
 use native.Mathlib.Omega.{arith}
-use lib.Dec.{ltb}
+use lib.Dec.{eqb, ltb}
 use lib.ListN.{length, getD, set, length-set}
-use Rattle.std.proofs.shelf.Tests.{lt-ltb, le-ltb, cond-true, cond-false}
+use Rattle.std.proofs.shelf.Tests.{lt-ltb, le-ltb, eqb-false, cond-true, cond-false, cond-both}
 use Rattle.moving.specs.Hosts.{Among, taken, rest'}
 use Rattle.side.specs.declared.Mix.{Mix}
 use Rattle.side.specs.declared.Mix.the-variants.{Still, First, Swap, Double}
-use Rattle.side.specs.Sides.{remembered, mixed}
+use Rattle.side.specs.Sides.{remembered, mixed, roughened}
 
 pub taken-more : (r : List (List ℕ)) (l : List ℕ) → length r < 64 → taken r l ≡ r ++ l ∷ []
 taken-more r l h = cond-true (ltb (length r) 64) (r ++ l ∷ []) r (lt-ltb (length r) 64 h)
@@ -62,6 +63,10 @@ mem-at [] i lt = absurd (omega arith)
 mem-at (y ∷ ys) zero lt = List·Memᴰ·head refl
 mem-at (y ∷ ys) (suc i) lt = List·Memᴰ·tail (mem-at ys i (omega arith))
 
+-- a place counted round is one of the list
+pub round-below : (i : ℕ) (xs : List (List ℕ)) → 0 < length xs → i % length xs < length xs
+round-below i xs lt = mod-lt i lt
+
 -- a mixed row has no letter that it hadn't, and not more of them
 pub mixed-among : (m : Mix) (i : ℕ) (xs : List (List ℕ)) → i < length xs → Among (mixed m i xs) xs
 mixed-among Still i xs lt = among-self xs
@@ -74,3 +79,16 @@ mixed-length Still i xs = omega arith
 mixed-length First i xs = omega (arith, rest-length xs)
 mixed-length Swap i xs = simp length-set (omega arith)
 mixed-length Double i xs = simp length-set (omega arith)
+
+-- the same with a place that is counted round
+pub roughened-among : (m : Mix) (i : ℕ) (xs : List (List ℕ)) → Among (roughened m i xs) xs
+roughened-among m i xs =
+    cond-both (eqb (length xs) 0) xs (mixed m (i % length xs) xs) (λ ys. Among ys xs) (λ _. among-self xs)
+    (λ e. mixed-among m (i % length xs) xs (round-below i xs (pos-of-nonzero (length xs) (eqb-false (length xs) 0 e))))
+  where
+    pos-of-nonzero : (n : ℕ) → (n ≡ 0 → ⊥) → 0 < n
+    pos-of-nonzero n ne = omega arith
+
+pub roughened-length : (m : Mix) (i : ℕ) (xs : List (List ℕ)) → length (roughened m i xs) ≤ length xs
+roughened-length m i xs =
+    cond-both (eqb (length xs) 0) xs (mixed m (i % length xs) xs) (λ ys. length ys ≤ length xs) (λ _. omega arith) (λ _. mixed-length m (i % length xs) xs)

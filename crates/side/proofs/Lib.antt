@@ -1,2 +1,3 @@
-pub mod Puts
 pub mod Letters
+pub mod Puts
+pub mod Sizes

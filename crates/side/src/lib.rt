@@ -278,6 +278,13 @@ impl<'a> Side<'a> {
         self.row.pop(into)
     }
 
+    // Whether a letter is kept.
+    pub fn keeps(&self) -> bool
+        ensures { λ r. ⌜ r ≡ ltb 0 (length (lettersOf (now (self .entry) .kept))) ⌝ }
+    {
+        self.kept.len() > 0
+    }
+
     // The letter that is kept at place i, counted round from the oldest; false where none is.
     pub fn again(&self, i: usize, into: &mut [u64]) -> bool
         requires { ⌜ length (now into) ≡ 72 ⌝ }

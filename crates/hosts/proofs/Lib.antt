@@ -1,0 +1,5 @@
+pub mod Between
+pub mod Hands
+pub mod Logs
+pub mod Plans
+pub mod Posts
