@@ -310,8 +310,9 @@ fn main(rt: LibcRuntime) -> io::Result<()> {
             row: &mut row1,
             kept: &mut kept1,
         };
-        let Ok(mut hosts) = Hosts::new(PAGES, zero, one, &mut truth, &mut events) else {
-            return Ok(());
+        let mut hosts = match Hosts::new(PAGES, zero, one, &mut truth, &mut events) {
+            Ok(hosts) => hosts,
+            Err(_) => unreachable(),
         };
         if !run(&rt, &mut input, &mut hosts)? {
             return Ok(());
