@@ -108,7 +108,7 @@ fn tell(rt: &LibcRuntime, log: &mut Log) -> io::Result<()> {
     Ok(())
 }
 
-// Both nodes, and whether the promise on time is broken, of which is told once.
+// Both nodes, and whether the last round was late.
 #[derive(Drop)]
 struct Play {
     zero: Node,

@@ -1,15 +1,15 @@
 -- Between rounds, and at their end.
 -- Assumes nothing.
-use mathlib.Core.Path.{_≡_, refl, sym, ap, subst}
+use mathlib.Core.Path.{_≡_, refl, sym, _∙_, ap, subst}
 use mathlib.Core.Bool.{Bool, true, false, cond, _&&_, not}
-use Prim.Native.Nat.{ℕ, _+_, _*_, _<_, _≤_}
+use Prim.Native.Nat.{ℕ, _+_, _*_, _<_, _≤_, min}
 use native.Mathlib.Omega.{arith}
 use lib.Dec.{T, ltb}
 use Rattle.std.specs.declared.option.Option.{Option}
 use Rattle.std.proofs.shelf.Tests.{cond-both, ltb-true}
-use Rattle.moving.specs.Hosts.{World, Goes, Between, asked, InTime}
+use Rattle.moving.specs.Hosts.{World, Goes, Between, asked, InTime, rounded, withTurn, good}
 use Rattle.plan.specs.declared.Write.{Write}
-use Rattle.pair.specs.Worlds.{wished}
+use Rattle.pair.specs.Worlds.{wished, closed}
 use Rattle.hosts.specs.Follows.{fills, wishes}
 use Rattle.hosts.proofs.Plans.{fills-goes, and-left, and-right}
 
@@ -39,3 +39,11 @@ few-calm w t = ltb-true _ _ (and-right (ltb (w .still) 32) _ (true-of _ t))
 
 pub few-still : (w : World) → T (InTime w) → w .still < 32
 few-still w t = ltb-true _ _ (and-left (ltb (w .still) 32) _ (true-of _ t))
+
+-- and so the end of its round is counted as it should be
+pub closed-few : (w : World) → w .calm < 4294967295 → w .still < 4294967295 → closed w ≡ rounded w
+closed-few w c s =
+    let a : min (w .calm + 1) 4294967295 ≡ w .calm + 1 = omega arith in
+    let b : min (w .still + 1) 4294967295 ≡ w .still + 1 = omega arith in
+    ap (λ n. withTurn (w .turn) 0 (w .fell) false 0 (cond (good w && w .wish && not (w .lost) && not (w .hurt)) n 0) (cond (good w && not (w .runs) && not (w .lost) && not (w .hurt)) (min (w .still + 1) 4294967295) 0) w) a
+    ∙ ap (λ n. withTurn (w .turn) 0 (w .fell) false 0 (cond (good w && w .wish && not (w .lost) && not (w .hurt)) (w .calm + 1) 0) (cond (good w && not (w .runs) && not (w .lost) && not (w .hurt)) n 0) w) b

@@ -10,7 +10,7 @@ ghost use Rattle.std.specs.declared.result.Result.the-variants.{Ok, Err};
 ghost use Rattle.moving.specs.Hosts.{World, Does, Posts, Gets, Between, AtStart, InTime, Sends, me, kept, heard, putPage, untouched, stopped, resumed, counted, seated, renewed, rounded};
 ghost use Rattle.plan.specs.declared.Plan.{Plan};
 ghost use Rattle.hosts.specs.Stories.{Story, storyOf, noted};
-ghost use Rattle.pair.specs.Worlds.{worldOf as pairWorld};
+ghost use Rattle.pair.specs.Worlds.{worldOf as pairWorld, closed};
 ghost use Rattle.plan.specs.Plans.{postOf, posted, handOf, handed};
 ghost use Rattle.hosts.specs.Makes.{refusalOf, memoryOf, rowOf, keptOf, Made, guestOf, repeated};
 ghost use Rattle.hosts.specs.Follows.{worldOf, event, Fell, fills, Follows, Plain, Tells, SentAs, sentBy, Hands, Hears, FallsHearing, wishes, BetweenAs, Began, Ended};
@@ -176,8 +176,7 @@ impl<'a> Hosts<'a> {
 
     // The end of a round, also of one that should not be; counts go up to 2^32 - 1.
     pub fn close(&mut self)
-        ensures world { λ _. ⌜ (worldOf (now (self .entry)) .calm < 4294967295 → worldOf (now (self .entry)) .still < 4294967295 → worldOf (now (self .exit)) ≡ rounded (worldOf (now (self .entry)))) ⌝ }
-        ensures fell { λ _. ⌜ worldOf (now (self .exit)) .fell ≡ worldOf (now (self .entry)) .fell ⌝ }
+        ensures world { λ _. ⌜ worldOf (now (self .exit)) ≡ closed (worldOf (now (self .entry))) ⌝ }
         ensures same { λ _. ⌜ now (self .exit) .plan ≡ now (self .entry) .plan ⌝ ∗ ⌜ storyOf (now (self .exit) .log) ≡ storyOf (now (self .entry) .log) ⌝ }
     {
         self.pair.round();
@@ -448,6 +447,7 @@ impl<'a> Hosts<'a> {
         requires { ⌜ worldOf (now self) .fell ≡ false ⌝ }
         ensures seated { λ r. ⌜ (T r → worldOf (now (self .exit)) ≡ seated i (worldOf (now (self .entry)))) ⌝ }
         ensures two { λ r. ⌜ r ≡ ltb i 2 ⌝ }
+        ensures stays { λ r. ⌜ (r ≡ false → worldOf (now (self .exit)) ≡ worldOf (now (self .entry))) ⌝ }
         ensures same { λ _. ⌜ now (self .exit) .plan ≡ now (self .entry) .plan ⌝ ∗ ⌜ storyOf (now (self .exit) .log) ≡ storyOf (now (self .entry) .log) ⌝ }
     {
         match i {

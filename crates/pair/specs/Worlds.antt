@@ -1,13 +1,13 @@
 -- What two hosts in memory and their guest are, as a world.
 -- Assumes nothing.
 use mathlib.Core.Path.{_≡_}
-use mathlib.Core.Bool.{Bool, true, false, cond}
+use mathlib.Core.Bool.{Bool, true, false, cond, _&&_, not}
 use mathlib.Core.List.{List, [], _∷_}
-use Prim.Native.Nat.{ℕ, _<_, _≤_, min}
+use Prim.Native.Nat.{ℕ, _+_, _<_, _≤_, min}
 use lib.Dec.{eqb, ltb}
 use lib.ListN.{length, getD, take, replicate}
 use denote.Ref.{now}
-use Rattle.moving.specs.Hosts.{Host, World, hostOf, put, Among, taken, headIs, rest', withHost, withGuest, withLink, me, other, Fallen}
+use Rattle.moving.specs.Hosts.{Host, World, hostOf, put, Among, taken, headIs, rest', withHost, withGuest, withLink, me, other, Fallen, withTurn, good}
 use Rattle.side.specs.declared.Mix.{Mix}
 use Rattle.side.specs.Sides.{numb, blank, sizeOf, host, remembered, roughened}
 use Rattle.pair.specs.declared.Pair.{Pair}
@@ -76,3 +76,8 @@ upTo k f g p = cond (ltb p k) (f p) (g p)
 -- The guest is to be moved, and the host on which it runs is told.
 abbrev pub wished : World → World
 wished w = withGuest (w .runs) (w .last) (w .lost) (w .truth) (w .hurt) true (withHost (w .last) (hostOf (w .host (w .last) .page) (w .host (w .last) .touched) (w .host (w .last) .cell) true (w .host (w .last) .row) (w .host (w .last) .old)) w)
+
+-- A round has ended; the counts of calm rounds go up to 2^32 - 1.
+abbrev pub closed : World → World
+closed w =
+    withTurn (w .turn) 0 (w .fell) false 0 (cond (good w && w .wish && not (w .lost) && not (w .hurt)) (min (w .calm + 1) 4294967295) 0) (cond (good w && not (w .runs) && not (w .lost) && not (w .hurt)) (min (w .still + 1) 4294967295) 0) w

@@ -2,12 +2,12 @@
 ghost use mathlib.Core.Path.{_≡_};
 ghost use mathlib.Core.Bool.{Bool, true, false, cond};
 ghost use mathlib.Core.List.{List, [], List·Memᴰ};
-ghost use Prim.Native.Nat.{ℕ, _+_, _-_, _%_, _<_, _≤_};
+ghost use Prim.Native.Nat.{ℕ, _+_, _-_, _%_, _<_, _≤_, min};
 ghost use lib.Dec.{ltb};
 ghost use lib.ListN.{length, getD};
-ghost use Rattle.moving.specs.Hosts.{World, kept, heard, putPage, untouched, stopped, resumed, counted, AtStart, InTime, wrote, me, other, seated, renewed, rounded, roughened};
+ghost use Rattle.moving.specs.Hosts.{World, kept, heard, putPage, untouched, stopped, resumed, counted, AtStart, InTime, wrote, me, other, seated, renewed, roughened};
 ghost use Rattle.side.specs.Sides.{numb, sizeOf, Fresh};
-ghost use Rattle.pair.specs.Worlds.{room, worldOf, DroppedWith, FallenWith, PostedIn, NextIn, mixedIn, saved, wished};
+ghost use Rattle.pair.specs.Worlds.{room, worldOf, DroppedWith, FallenWith, PostedIn, NextIn, mixedIn, saved, wished, closed};
 use side::Mix;
 use side::Side;
 use side::Who;
@@ -41,7 +41,7 @@ fn busier(n: u32) -> u32
 
 // One more of such rounds in a row, or none; it stops counting where a number ends.
 fn counts(good: bool, n: u32) -> u32
-    ensures { λ r. ⌜ (n < 4294967295 → r ≡ cond good (n + 1) 0) ⌝ }
+    ensures { λ r. ⌜ r ≡ cond good (min (n + 1) 4294967295) 0 ⌝ }
 {
     if good { n.saturating_add(1) } else { 0 }
 }
@@ -327,8 +327,7 @@ impl<'a> Pair<'a> {
 
     // Both had a turn.
     pub fn round(&mut self)
-        ensures fell { λ _. ⌜ worldOf (now (self .exit)) .fell ≡ worldOf (now (self .entry)) .fell ⌝ }
-        ensures world { λ _. ⌜ (worldOf (now (self .entry)) .calm < 4294967295 → worldOf (now (self .entry)) .still < 4294967295 → worldOf (now (self .exit)) ≡ rounded (worldOf (now (self .entry)))) ⌝ }
+        ensures { λ _. ⌜ worldOf (now (self .exit)) ≡ closed (worldOf (now (self .entry))) ⌝ }
     {
         let good = !self.rough & (self.busy <= 16);
         let wished = good & self.wish & !self.lost & !self.hurt;

@@ -7,7 +7,7 @@ ghost use Rattle.plan.specs.Plans.{stepped, drawnWord, chance, fallsBy, mixBy,
 use side::Mix;
 use side::Who;
 
-// A host falls over the so-manieth thing that it asks from here on, before or after that is done; 0: over none.
+// A host falls over the n-th thing that it asks from here on, before or after that is done; 0: over none.
 #[derive(Clone, Copy)]
 pub struct Fall {
     pub ask: u32,
@@ -25,7 +25,7 @@ pub struct Write {
 pub struct Plan {
     pub zero: Fall,
     pub one: Fall,
-    // the so-manieth letter that is sent from here on is lost; 0: none
+    // the n-th letter that is sent from here on is lost; 0: none
     pub lose: u32,
     // so often the oldest letter that is kept for host 1 comes there again, in front
     pub again: u32,

@@ -110,6 +110,7 @@ impl<'a> Queue<'a> {
         ensures first { λ r. ⌜ headIs (lettersOf (now (self .entry))) r (now (into .exit)) ⌝ }
         ensures rest { λ _. ⌜ lettersOf (now (self .exit)) ≡ rest' (lettersOf (now (self .entry))) ⌝ }
         ensures room { λ _. ⌜ roomOf (now (self .exit)) ≡ roomOf (now (self .entry)) ⌝ }
+        ensures same { λ r. ⌜ (r ≡ false → now (into .exit) ≡ now (into .entry)) ⌝ }
     {
         if !self.get(0, into) {
             return false;

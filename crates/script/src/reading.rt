@@ -91,7 +91,7 @@ fn command(text: &str, pages: u32) -> Option<Command>
     }
 }
 
-// The command that the line is, the whole of it, for a store of so many pages.
+// The command that the line is, the whole of it, for a guest of so many pages.
 pub fn read(line: &[u8], pages: u32) -> Option<Command>
     ensures reads { λ r. ⌜ ((c : Command) → Valid pages c → now (line .entry) ≡ spelt c → r ≡ Some c) ⌝ }
     ensures only { λ r. ⌜ found r (λ c. Valid pages c × (now (line .entry) ≡ spelt c)) ⌝ }
