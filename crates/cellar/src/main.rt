@@ -3,21 +3,19 @@ ghost use mathlib.Core.Path.{_≡_};
 ghost use mathlib.Core.Bool.{true, false};
 ghost use Prim.Native.Nat.{ℕ, _<_, _≤_};
 ghost use lib.ListN.{length};
+ghost use Rattle.moving.specs.Hosts.{AtStart};
 ghost use Rattle.hosts.specs.Follows.{worldOf};
+ghost use Rattle.rounds.specs.Plays.{Playing};
 use hosts::Guest;
 use hosts::Hosts;
-use hosts::HostsPlace;
-use hosts::HostsSky;
 use hosts::Lent;
 use hosts::log::Event;
 use hosts::log::Log;
 use hosts::log::What;
-use moving::Down;
-use moving::Node;
-use moving::Place;
-use moving::Sky;
 use plan::Fall;
 use plan::Write;
+use rounds::Play;
+use rounds::Round;
 use script::Command;
 use script::Line;
 use side::Who;
@@ -26,8 +24,8 @@ use std::io::Read;
 
 const PAGES: u32 = 32;
 
-// A turn has 256 asks, and of each are told three things at most.
-const EVENTS: usize = 768;
+// A round has 512 asks, and of each are told three things at most.
+const EVENTS: usize = 1536;
 
 // What was read and not yet used: bytes, from `at` on; and how many lines there were.
 #[derive(Drop)]
@@ -108,91 +106,65 @@ fn tell(rt: &LibcRuntime, log: &mut Log) -> io::Result<()> {
     Ok(())
 }
 
-// Both nodes, and whether the last round was late.
+// A play, and whether its last round was late.
 #[derive(Drop)]
-struct Play {
-    zero: Node,
-    one: Node,
+struct Night {
+    play: Play,
     late: bool,
 }
 
-// A turn of a node: one that falls is replaced by another.
-fn turn(node: &mut Node, hosts: &mut Hosts, i: u32)
-    requires { ⌜ i < 2 ⌝ ∗ ⌜ worldOf (now hosts) .fell ≡ false ⌝ }
-    ensures { λ _. ⌜ worldOf (now (hosts .exit)) .fell ≡ false ⌝ }
+// A round, and what happened in it.
+fn round(rt: &LibcRuntime, hosts: &mut Hosts, night: &mut Night) -> io::Result<()>
+    requires { ⌜ Playing (now night .play) (worldOf (now hosts)) ⌝ }
+    ensures { λ _. ⌜ Playing (now (night .exit) .play) (worldOf (now (hosts .exit))) ⌝ }
 {
-    if !hosts.sky_seat(i) {
-        return;
-    }
-    if let Err(Down) = node.turn(hosts) {
-        hosts.renew();
-        *node = Node::new(i, false);
-    }
-}
-
-// The end of a round; true where that is late.
-fn end(hosts: &mut Hosts) -> bool
-    requires { ⌜ worldOf (now hosts) .fell ≡ false ⌝ }
-    ensures { λ _. ⌜ worldOf (now (hosts .exit)) .fell ≡ false ⌝ }
-{
-    if hosts.in_time() {
-        hosts.round();
-        return false;
-    }
-    hosts.close();
-    true
-}
-
-fn round(rt: &LibcRuntime, hosts: &mut Hosts, play: &mut Play) -> io::Result<()>
-    requires { ⌜ worldOf (now hosts) .fell ≡ false ⌝ }
-    ensures { λ _. ⌜ worldOf (now (hosts .exit)) .fell ≡ false ⌝ }
-{
-    hosts.between();
-    turn(&mut play.zero, hosts, 0);
+    let late = match night.play.round(hosts) {
+        Round::Fine => false,
+        Round::Late => true,
+        Round::Over => night.late,
+    };
+    let was = night.late;
+    night.late = late;
     tell(rt, &mut hosts.log)?;
-    turn(&mut play.one, hosts, 1);
-    tell(rt, &mut hosts.log)?;
-    let late = end(hosts);
-    if late & !play.late {
+    if late & !was {
         println!(rt, "late")?;
     }
-    play.late = late;
     Ok(())
 }
 
-fn rounds(rt: &LibcRuntime, hosts: &mut Hosts, play: &mut Play, many: u32) -> io::Result<()>
-    requires { ⌜ worldOf (now hosts) .fell ≡ false ⌝ }
-    ensures { λ _. ⌜ worldOf (now (hosts .exit)) .fell ≡ false ⌝ }
+fn rounds(rt: &LibcRuntime, hosts: &mut Hosts, night: &mut Night, many: u32) -> io::Result<()>
+    requires { ⌜ Playing (now night .play) (worldOf (now hosts)) ⌝ }
+    ensures { λ _. ⌜ Playing (now (night .exit) .play) (worldOf (now (hosts .exit))) ⌝ }
 {
     for _ in 0..many {
-        round(rt, hosts, play)?;
+        round(rt, hosts, night)?;
     }
     Ok(())
 }
 
 // Somebody wants the guest to be moved.
-fn want(rt: &LibcRuntime, hosts: &mut Hosts) -> io::Result<()>
-    requires { ⌜ worldOf (now hosts) .fell ≡ false ⌝ }
-    ensures { λ _. ⌜ worldOf (now (hosts .exit)) .fell ≡ false ⌝ }
+fn want(rt: &LibcRuntime, hosts: &mut Hosts, night: &Night) -> io::Result<()>
+    requires { ⌜ Playing (now night .play) (worldOf (now hosts)) ⌝ }
+    ensures { λ _. ⌜ Playing (now (night .entry) .play) (worldOf (now (hosts .exit))) ⌝ }
 {
     if !hosts.may_want() {
         return println!(rt, "no");
     }
     hosts.plan.wish = true;
-    hosts.between();
+    night.play.between(hosts);
     Ok(())
 }
 
 // The guest fills a page.
-fn write(rt: &LibcRuntime, hosts: &mut Hosts, page: u32, word: u64) -> io::Result<()>
-    requires { ⌜ worldOf (now hosts) .fell ≡ false ⌝ }
-    ensures { λ _. ⌜ worldOf (now (hosts .exit)) .fell ≡ false ⌝ }
+fn write(rt: &LibcRuntime, hosts: &mut Hosts, night: &Night, page: u32, word: u64) -> io::Result<()>
+    requires { ⌜ Playing (now night .play) (worldOf (now hosts)) ⌝ }
+    ensures { λ _. ⌜ Playing (now (night .entry) .play) (worldOf (now (hosts .exit))) ⌝ }
 {
     let Guest::Runs(_) = hosts.guest() else {
         return println!(rt, "no");
     };
     hosts.plan.write = Some(Write { page, word });
-    hosts.between();
+    night.play.between(hosts);
     Ok(())
 }
 
@@ -214,25 +186,31 @@ fn tell_where(rt: &LibcRuntime, guest: Guest) -> io::Result<()> {
 }
 
 // So many rounds in which a generator decides what goes wrong.
-fn any(rt: &LibcRuntime, hosts: &mut Hosts, play: &mut Play, seed: u64, many: u32) -> io::Result<()>
-    requires { ⌜ worldOf (now hosts) .fell ≡ false ⌝ }
-    ensures { λ _. ⌜ worldOf (now (hosts .exit)) .fell ≡ false ⌝ }
+fn any(
+    rt: &LibcRuntime,
+    hosts: &mut Hosts,
+    night: &mut Night,
+    seed: u64,
+    many: u32,
+) -> io::Result<()>
+    requires { ⌜ Playing (now night .play) (worldOf (now hosts)) ⌝ }
+    ensures { λ _. ⌜ Playing (now (night .exit) .play) (worldOf (now (hosts .exit))) ⌝ }
 {
     hosts.plan.random = true;
     hosts.plan.word = seed;
-    rounds(rt, hosts, play, many)?;
+    rounds(rt, hosts, night, many)?;
     hosts.plan.random = false;
     Ok(())
 }
 
-fn obey(rt: &LibcRuntime, hosts: &mut Hosts, play: &mut Play, command: Command) -> io::Result<()>
-    requires { ⌜ worldOf (now hosts) .fell ≡ false ⌝ }
-    ensures { λ _. ⌜ worldOf (now (hosts .exit)) .fell ≡ false ⌝ }
+fn obey(rt: &LibcRuntime, hosts: &mut Hosts, night: &mut Night, command: Command) -> io::Result<()>
+    requires { ⌜ Playing (now night .play) (worldOf (now hosts)) ⌝ }
+    ensures { λ _. ⌜ Playing (now (night .exit) .play) (worldOf (now (hosts .exit))) ⌝ }
 {
     match command {
-        Command::Move => want(rt, hosts),
-        Command::Round { rounds: many } => rounds(rt, hosts, play, many),
-        Command::Write { page, word } => write(rt, hosts, page, word),
+        Command::Move => want(rt, hosts, night),
+        Command::Round { rounds: many } => rounds(rt, hosts, night, many),
+        Command::Write { page, word } => write(rt, hosts, night, page, word),
         Command::Fall { host, ask, after } => {
             if host == 0 {
                 hosts.plan.zero = Fall { ask, after };
@@ -249,19 +227,35 @@ fn obey(rt: &LibcRuntime, hosts: &mut Hosts, play: &mut Play, command: Command) 
             hosts.repeat();
             Ok(())
         }
-        Command::Any { seed, rounds: many } => any(rt, hosts, play, seed, many),
+        Command::Any { seed, rounds: many } => any(rt, hosts, night, seed, many),
         Command::Where => tell_where(rt, hosts.guest()),
         Command::Anew => Ok(()),
     }
 }
 
+// Does what a line says, or tells the number of the line that says nothing.
+fn answer(
+    rt: &LibcRuntime,
+    hosts: &mut Hosts,
+    night: &mut Night,
+    command: Option<Command>,
+    line: u64,
+) -> io::Result<()>
+    requires { ⌜ Playing (now night .play) (worldOf (now hosts)) ⌝ }
+    ensures { λ _. ⌜ Playing (now (night .exit) .play) (worldOf (now (hosts .exit))) ⌝ }
+{
+    match command {
+        None => println!(rt, "line {line}?"),
+        Some(command) => obey(rt, hosts, night, command),
+    }
+}
+
 // Plays until all is to begin anew; false where there is nothing more to play.
 fn run(rt: &LibcRuntime, input: &mut Input, hosts: &mut Hosts) -> io::Result<bool>
-    requires { ⌜ worldOf (now hosts) .fell ≡ false ⌝ }
+    requires { ⌜ AtStart (worldOf (now hosts)) ⌝ }
 {
-    let mut play = Play {
-        zero: Node::new(0, true),
-        one: Node::new(1, false),
+    let mut night = Night {
+        play: Play::new(hosts),
         late: false,
     };
     let mut line = Line::new();
@@ -269,14 +263,11 @@ fn run(rt: &LibcRuntime, input: &mut Input, hosts: &mut Hosts) -> io::Result<boo
         if !input.next(rt, &mut line)? {
             return Ok(false);
         }
-        match line.command(PAGES) {
-            None => {
-                let n = input.lines;
-                println!(rt, "line {n}?")?;
-            }
-            Some(Command::Anew) => return Ok(true),
-            Some(command) => obey(rt, hosts, &mut play, command)?,
+        let command = line.command(PAGES);
+        if let Some(Command::Anew) = command {
+            return Ok(true);
         }
+        answer(rt, hosts, &mut night, command, input.lines)?;
     }
     Ok(false)
 }

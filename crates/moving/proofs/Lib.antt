@@ -1,2 +1,14 @@
+pub mod Acts
+pub mod Carries
 pub mod Falls
+pub mod Heard
+pub mod Letters
+pub mod Moves
 pub mod Promises
+pub mod Rounds
+pub mod Scans
+pub mod Steps
+pub mod Turned
+pub mod Uses
+pub mod Views
+pub mod Ways

@@ -8,6 +8,10 @@ ghost use Rattle.std.specs.Results.{isOk};
 ghost use Rattle.std.specs.declared.result.Result.the-variants.{Ok};
 ghost use Rattle.moving.specs.Hosts.{World, Does, Posts, Gets, Between, MayResume, MayStop, MayPut, InTime, AtStart, me, putPage, untouched, kept, heard, stopped, resumed, seated, renewed, rounded};
 ghost use Rattle.moving.specs.Promise.{OneTruth, LostStays};
+ghost use mathlib.Core.List.{[]};
+ghost use Rattle.std.specs.Vec.{made};
+ghost use Rattle.moving.specs.Model.{Rested};
+ghost use Rattle.moving.specs.Invariant.{fresh, Ready, Keeps};
 
 // The host has fallen: nothing that it knows is left but its cells.
 #[derive(Clone, Copy)]
@@ -80,32 +84,84 @@ pub trait Sky: Place {
         ensures { λ _. ⌜ world (now (self .exit)) ≡ rounded (world (now (self .entry))) ⌝ };
 }
 
-// What a host knows while it stands: as yet nothing. begins: the guest runs there as all begins.
+// What no host sees, where a round may end at any time: nothing is asked of how long the guest stands still.
+pub trait AnySky: Place {
+    // whose turn it is; who has had one, stands (false: all is over)
+    fn seat(&mut self, i: u32) -> bool
+        requires { ⌜ world (now self) .fell ≡ false ⌝ }
+        ensures { λ r. ⌜ (T r → world (now (self .exit)) ≡ seated i (world (now (self .entry)))) ⌝ };
+    // it has fallen, and begins anew
+    fn renew(&mut self)
+        requires { ⌜ world (now self) .fell ≡ true ⌝ }
+        ensures { λ _. ⌜ world (now (self .exit)) ≡ renewed (world (now (self .entry))) ⌝ };
+
+    fn between(&mut self)
+        ensures { λ _. ⌜ Between (world (now (self .entry))) (world (now (self .exit))) ⌝ };
+    // both had a turn
+    fn round(&mut self)
+        ensures { λ _. ⌜ world (now (self .exit)) ≡ rounded (world (now (self .entry))) ⌝ };
+}
+
+mod acting;
+mod asks;
+mod hearing;
+pub mod right;
+mod sending;
+pub mod state;
+mod turning;
+
+use state::Running;
+use state::State;
+
+// What a host knows while it stands. took, top, committed: copies of cells 0, 1 and 2, right while it's awake;
+// asked: the attempt of the last probe or commit that it has heard in this turn.
 #[derive(Drop)]
 pub struct Node {
-    pub begins: bool,
+    pub me: u64,
+    pub awake: bool,
+    pub took: u64,
+    pub top: u64,
+    pub committed: u64,
+    pub asked: Option<u64>,
+    pub state: State,
 }
 
 impl Node {
+    // begins: the guest runs there as all begins.
     pub fn new(i: u32, begins: bool) -> Node
-        ensures { λ r. ⌜ r .begins ≡ begins ⌝ }
+        ensures { λ r. ⌜ r ≡ fresh i begins ⌝ }
     {
-        let _i = i;
-        Node { begins }
+        let state = if begins {
+            State::Running(Running { wanted: false })
+        } else {
+            State::Away
+        };
+        Node {
+            me: i as u64,
+            awake: begins,
+            took: 0,
+            top: 0,
+            committed: 0,
+            asked: None,
+            state,
+        }
     }
 
-    // One cell is asked for, and nothing else is done.
+    // Reads its cells if it has just begun, hears what has come, does what is to be done by itself, and answers who asked.
     pub fn turn<P: Place>(&mut self, w: &mut P) -> Result<(), Down>
         requires soon { ⌜ 256 ≤ world (now w) .left ⌝ }
         requires up { ⌜ world (now w) .fell ≡ false ⌝ }
+        requires rested { ⌜ Rested (now self) ⌝ }
+        requires ready { ⌜ Ready 64 [] (now self) (world (now w)) ⌝ }
         ensures only { λ r. ⌜ (isOk r ≡ not (world (now (w .exit)) .fell)) ⌝ }
-        ensures idle { λ r. ⌜ Does (world (now (w .entry))) (world (now (w .entry))) (isOk r) (world (now (w .exit))) ⌝ }
+        ensures rested { λ r. ⌜ made r (λ _. Rested (now (self .exit))) ⌝ }
+        ensures keeps { λ r. ⌜ Keeps 64 [] (now (self .entry)) (world (now (w .entry))) r (λ _. now (self .exit)) (world (now (w .exit))) ⌝ }
     {
-        self.begins = false;
-        match w.get(0) {
-            Err(Down) => Err(Down),
-            Ok(_) => Ok(()),
-        }
+        let left = self.wake(w)?;
+        let left = self.hear(w, left)?;
+        self.act(w, left - 1)?;
+        self.reply(w)?;
+        Ok(())
     }
 }
 
@@ -113,6 +169,36 @@ pub fn node_is_small() -> bool
     ensures { λ r. ⌜ T r ⌝ }
 {
     std::mem::size_of::<Node>() <= 65536
+}
+
+// THE FIRST PROMISE. Whatever the guest writes, whatever the line does, whichever host falls, and however long a round is waited for:
+// `resume`, `stop` and `put` are only asked for when they may be.
+pub fn safe_nights<W: Place + AnySky>(w: &mut W, many: u64)
+    requires starts { ⌜ AtStart (world (now w)) ⌝ }
+    requires few { ⌜ many < 281474976710656 ⌝ }
+{
+    let mut a = Node::new(0, true);
+    let mut b = Node::new(1, false);
+    let mut n: u64 = 0;
+    while n < many {
+        n += 1;
+        w.between();
+        if !w.seat(0) {
+            return;
+        }
+        if let Err(Down) = a.turn(w) {
+            w.renew();
+            a = Node::new(0, false);
+        }
+        if !w.seat(1) {
+            return;
+        }
+        if let Err(Down) = b.turn(w) {
+            w.renew();
+            b = Node::new(1, false);
+        }
+        w.round();
+    }
 }
 
 // What is promised beside, each a theorem that a contract names.

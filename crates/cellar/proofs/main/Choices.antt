@@ -14,5 +14,5 @@ Inv-loop l =
       row1 : length (l .row1) ≡ 128;
       kept0 : length (l .kept0) ≡ 256;
       kept1 : length (l .kept1) ≡ 256;
-      events : length (l .events) ≡ 768;
+      events : length (l .events) ≡ 1536;
     }

@@ -1,7 +1,6 @@
-use mathlib.Core.Path.{_≡_}
-use mathlib.Core.Bool.{false}
 use Rattle.hosts.specs.Follows.{worldOf}
+use Rattle.rounds.specs.Plays.{Playing}
 use Rattle.cellar.proofs.rounds.Given as given
 
 abbrev pub Inv-loop : given.InvT-loop
-Inv-loop l = worldOf (l .hosts) .fell ≡ false
+Inv-loop l = Playing (l .night .play) (worldOf (l .hosts))
