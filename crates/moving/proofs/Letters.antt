@@ -96,7 +96,7 @@ pub let-go : {m : ℕ} {x y : List (List ℕ)} {n o : Node} {u : View} (l : List
 let-go {m = m} {x = x} {n = n} {o = o} {u = u} l z i e at kd h =
     record { ours = record { me = h .ours .me; fit = h .ours .fit; guest = record { told = h .ours .guest .told; runner = λ a b. ap runner (sym e) ∙ h .ours .guest .runner a b; keeper = λ a b c d. keeps a b c d; running = λ x f. clash f tt; copying = λ x f. clash f tt; paused = λ x f. clash f tt; committed = λ x f. clash f tt; receiving = λ x f. clash f tt }; cells = record { copies = h .ours .cells .copies; asleep = λ _. refl; took = h .ours .cells .took; done = h .ours .cells .done; parity = h .ours .cells .parity; most = h .ours .cells .most; committed = λ x f. clash f tt; receiving = λ x f. clash f tt }; order = h .ours .order; commits = h .ours .commits; copy = record { carries = λ c f. none-some f; below = λ x f. clash f tt }; letters = λ l i. mine l (h .ours .letters l i) }; yours = record { me = h .yours .me; fit = h .yours .fit; guest = h .yours .guest; cells = h .yours .cells; order = h .yours .order; commits = λ s f. clash f tt; copy = record { carries = λ c f. let w = h .yours .copy .carries c f in record { attempt = w .attempt; own = w .own; done = w .done; took = w .took; most = w .most; ways = w .ways; base = w .base; every = w .every; under = λ r j. clash j tt }; below = h .yours .copy .below }; letters = λ l i. theirs l (h .yours .letters l i) } }
   where
-    -- it stands elsewhere, by T5, or it's hurt
+    -- it stands elsewhere, by `untaken`, or it's hurt
     keeps : u .runs ≡ false → u .lost ≡ false → u .hurt ≡ false → u .here ≡ true → false ≡ true
     keeps a b c d = elim kd [ inl k ↦ taken k | inr k ↦ sym (k .1) ∙ ap keeper (sym e) ∙ h .ours .guest .keeper a b c d ]
       where
@@ -188,14 +188,3 @@ recount-committed {m = m} {x = x} {n = n} {o = o} {u = u} z t e h =
     theirs : (l : List ℕ) → Legit m l o n (flip u) → Legit m l o (onState (Committed (recommit z t)) n) (flip u)
     theirs l k =
         record { probe = k .probe; page = k .page; commit = k .commit; ack = k .ack; refuse = λ i. record { own = k .refuse i .own; begun = k .refuse i .begun; dead = λ _ r f. clash f tt; untaken = k .refuse i .untaken }; taken = k .taken; place = k .place; given = k .given; bears = λ i c f. none-some f; acked = λ i c f d s j. clash j tt }
-
--- WHAT THE REPLY NEEDS of the attempt that was asked after
-pub asked-probe : {m : ℕ} {x y : List (List ℕ)} {n o : Node} {u : View} (l : List ℕ) → In l x (u .mine) → kindOf l ≡ 1 → Both m x y n o u → attemptOf l % 2 ≡ u .you
-asked-probe l i kd h = h .ours .letters l i .probe kd .own
-
-pub asked-commit : {m : ℕ} {x y : List (List ℕ)} {n o : Node} {u : View} (l : List ℕ) → In l x (u .mine) → kindOf l ≡ 3 → Both m x y n o u → (attemptOf l % 2 ≡ u .you) × (attemptOf l ≤ u .mine .cell 1)
-asked-commit l i kd h =
-    let k = h .ours .letters l i .commit kd in
-    let a = k .done in
-    let b = h .yours .order .begun in
-    (k .own, omega arith)

@@ -338,7 +338,7 @@ go-on {m = m} {x = x} {n = n} {o = o} {u = u} t aw top st ne h =
     theirs l k =
         record { probe = k .probe; page = k .page; commit = k .commit; ack = k .ack; refuse = λ i. record { own = k .refuse i .own; begun = k .refuse i .begun; dead = λ _ r f. clash f tt; untaken = λ a. let v = k .refuse i .untaken a in let w = h .ours .order .had (st .here) (omega arith) (ap (λ z. z % 2) (sym a) ∙ k .refuse i .own) in absurd (omega arith) }; taken = λ i. record { own = k .taken i .own; took = let w = k .taken i .took in let z = h .ours .cells .took in omega arith }; place = k .place; given = k .given; bears = λ i c f. none-some f; acked = λ i c f d s j. clash j tt }
 
--- Refuse is heard in Committed: T2 says that the guest is still here
+-- Refuse is heard in Committed: `had` says that the guest is still here
 pub refused-stands : {m : ℕ} {x y : List (List ℕ)} {n o : Node} {u : View} (l : List ℕ) (z : Commitment) → In l x (u .mine) → kindOf l ≡ 5 → n .state ≡ Committed z → z .mine ≡ true → attemptOf l ≡ z .attempt → Both m x y n o u → Stands u
 refused-stands {u = u} l z i kd e mi at h = go (u .here) refl
   where

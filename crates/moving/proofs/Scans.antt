@@ -28,7 +28,7 @@ use Rattle.moving.proofs.Moves.{no, clash, none-some, some-same, receiving-sam
 abbrev pub touchTo : (ℕ → Bool) → Host → Host
 touchTo f h = hostOf (h .page) f (h .cell) (h .told) (h .row) (h .old)
 
--- A TRANSFER CHANGES: what is owed is Carries, Bears and, in Paused, C7
+-- A TRANSFER CHANGES: what is owed is Carries, Bears and, in Paused, `below`
 pub copying-to : {m : ℕ} {x y : List (List ℕ)} {n o : Node} {u : View} (c d : Transfer) (t : ℕ → Bool) → n .state ≡ Copying c → d .attempt ≡ c .attempt → Carries m d o (onMine (touchTo t (u .mine)) u) → ((l : List ℕ) → Bears l c o (flip u) → Bears l d o (flip (onMine (touchTo t (u .mine)) u))) → Both m x y n o u → Both m x y (onState (Copying d) n) o (onMine (touchTo t (u .mine)) u)
 copying-to {m = m} {n = n} {o = o} {u = u} c d t e at ca be h =
     let g = h .ours .guest .copying c e in

@@ -105,12 +105,6 @@ step-err {w = w} (down t) u h k = absurd (both-ways (w .fell) u (is-true (w .fel
 pub step-up : {w d v : World} → Does w d true v → d .fell ≡ w .fell → v .fell ≡ false
 step-up (stands v e g) p = goes-fell g ∙ p ∙ e
 
-pub step-left : {w d v : World} → Does w d true v → d .left ≡ w .left → v .left ≡ w .left - 1
-step-left (stands v e g) p = goes-left g ∙ ap (λ k. k - 1) p
-
-pub step-wish : {w d v : World} → Does w d true v → d .wish ≡ w .wish → v .wish ≡ w .wish
-step-wish (stands v e g) p = goes-wish g ∙ p
-
 pub step-down : {w d v : World} → Does w d false v → w .fell ≡ false → v .fell ≡ true
 step-down (fallsBefore v e f) u = ap (λ w. w .fell) (f .is)
 step-down (fallsAfter v e f) u = ap (λ w. w .fell) (f .is)
@@ -158,9 +152,6 @@ commit-whole {w = w} z e len cur h = own-whole (cellAt 2 (z .transfer .attempt) 
 pub put-whole : {i m : ℕ} {x : List (List ℕ)} {n o : Node} {w : World} (l : List ℕ) (r : Reception) → In l x (me w) → kindOf l ≡ 2 → n .state ≡ Receiving r → attemptOf l ≡ r .attempt → placeOf l ≡ r .next → Whole i m x n o w → Whole i m x (onState (Receiving (further r)) n) o (putPage (pageOf l) (wordsOf l) w)
 put-whole {w = w} l r i kd e at pl h = own-whole (putAt (pageOf l) (wordsOf l) (me w)) h (put-page l r i kd e at pl (h .both))
 
-pub may-put : {i m : ℕ} {x : List (List ℕ)} {n o : Node} {w : World} (r : Reception) → n .state ≡ Receiving r → Whole i m x n o w → MayPut w
-may-put {w = w} r e h = inr (λ q. no (eq-eqb (w .last) (w .turn) q) (h .both .ours .guest .receiving r e))
-
 pub begin-whole : {i m : ℕ} {x : List (List ℕ)} {n o : Node} {w : World} (l : List ℕ) → In l x (me w) → kindOf l ≡ 1 → me w .cell 1 < attemptOf l → n .awake ≡ true → Whole i m x n o w → Whole i m x (onTop (attemptOf l) (Receiving (record { attempt = attemptOf l; next = 0 })) n) o (kept 1 (attemptOf l) w)
 begin-whole {w = w} l i kd gt aw h = own-whole (cellAt 1 (attemptOf l) (me w)) h (begin-it l i kd gt aw (h .both))
 
@@ -192,9 +183,6 @@ pub stop-whole : {i m : ℕ} {x : List (List ℕ)} {n o : Node} {w : World} (c :
 stop-whole {i = i} {m = m} {x = x} {n = n} {o = o} {w = w} c z e tr h =
     let q : w .last ≡ w .turn = last-here w (h .both .ours .guest .copying c e .here) in
     record { turn = h .turn; small = h .small; last = h .last; both = subst⁻¹ (λ k. Both m x [] (onState (Paused z) n) o (record { me = w .turn; you = other w; mine = me w; theirs = w .host (other w); here = eqb (w .last) (w .turn); pages = w .pages; runs = false; lost = w .lost; truth = w .host k .page; hurt = false; wish = w .wish })) q (stop-it c z e tr (h .both)) }
-
-pub may-stop : {i m : ℕ} {x : List (List ℕ)} {n o : Node} {w : World} (c : Transfer) → n .state ≡ Copying c → Whole i m x n o w → MayStop w
-may-stop {w = w} c e h = let g = h .both .ours .guest .copying c e in (holds (g .runs), last-here w (g .here), holds (g .wish))
 
 -- TOLD
 pub told-whole : {i m : ℕ} {x : List (List ℕ)} {n o : Node} {w : World} (z : Run) → n .state ≡ Running z → me w .told ≡ true → Whole i m x n o w → Whole i m x (onState (Running (record { wanted = true })) n) o (heard w)
@@ -248,11 +236,6 @@ pub gives-fell : {w d : World} {b : Bool} {l : List ℕ} → Gives w b l d → d
 gives-fell (next b l e) = refl
 gives-fell (again l m) = refl
 gives-fell (nothing l r a s) = refl
-
-pub gives-left : {w d : World} {b : Bool} {l : List ℕ} → Gives w b l d → d .left ≡ w .left
-gives-left (next b l e) = refl
-gives-left (again l m) = refl
-gives-left (nothing l r a s) = refl
 
 pub sent-whole : {i m : ℕ} {x : List (List ℕ)} {n o : Node} {w : World} (l : List ℕ) (r s : List (List ℕ)) → ((k : List ℕ) → In k [] (link r s (w .host (other w))) → In k [] (w .host (other w)) ⊎ (k ≡ l)) → Legit m l o n (flip (seen w)) → Whole i m x n o w → Whole i m x n o (withLink (other w) r s w)
 sent-whole {w = w} l r s f g h =
@@ -356,12 +339,6 @@ pub step-err-own : {i m : ℕ} {x : List (List ℕ)} {n o : Node} {w v : World} 
 step-err-own h e (fallsBefore v u f) p k = fell-whole f (counted-whole k)
 step-err-own h e (fallsAfter v u f) p k = fell-own h e f k
 step-err-own {w = w} h e (down t) p k = absurd (both-ways (w .fell) p (is-true (w .fell) t))
-
--- the same, with room made for one more place
-pub scan-whole : {i m : ℕ} {x : List (List ℕ)} {n o : Node} {w : World} (c d : Transfer) (p : ℕ) → n .state ≡ Copying c → Pushed c d p → p < w .pages → Whole i m x n o w → Whole i (m + 1) x (onState (Copying d) n) o (untouched p w)
-scan-whole c d p e k pp h =
-    let z = h .both .ours .copy .carries c (ap moving e) .most in
-    push-copying-whole c d p e k pp (omega arith) (more-whole (omega arith) h)
 
 pub skip-copying-whole : {i m : ℕ} {x : List (List ℕ)} {n o : Node} {w : World} (c : Transfer) (p k s t v : ℕ) → n .state ≡ Copying c → me w .touched p ≡ false → Whole i m x n o w → Whole i m x (onState (Copying (recount c k s t v)) n) o (untouched p w)
 skip-copying-whole {w = w} c p k s t v e f h = own-whole (clear p (me w)) h (skip-copying c p k s t v e f (h .both))

@@ -117,26 +117,26 @@ Runs a u =
 abbrev pub Copied : View → Type 0
 Copied u = record { runs : u .runs ≡ true; here : u .here ≡ true; wish : u .wish ≡ true; told : u .mine .told ≡ false }
 
--- W1
+-- The two hosts are two, the guest has 1 to 4,096 pages, and one that runs isn't lost.
 abbrev pub Fit : View → Type 0
 Fit u = record { sides : u .me + u .you ≡ 1; some : 1 ≤ u .pages; few : u .pages ≤ 4096; lost : (u .runs ≡ true → u .lost ≡ false) }
 
--- W2, N3, N4, N5
+-- What the host's state says of the guest: who is told that it's to be moved; where it runs or was stopped; which state goes with which.
 abbrev pub Guest : Node → View → Type 0
 Guest n u =
     record { told : (u .mine .told ≡ true → (u .runs ≡ true) × (u .here ≡ true) × (u .wish ≡ true)); runner : (u .runs ≡ true → u .here ≡ true → runner (n .state) ≡ true); keeper : (u .runs ≡ false → u .lost ≡ false → u .hurt ≡ false → u .here ≡ true → keeper (n .state) ≡ true); running : ((x : Run) → n .state ≡ Running x → Runs (x .wanted) u); copying : ((c : Transfer) → n .state ≡ Copying c → Copied u); paused : ((x : Pause) → n .state ≡ Paused x → Stands u); committed : ((x : Commitment) → n .state ≡ Committed x → x .mine ≡ true → u .here ≡ true → Stands u); receiving : ((r : Reception) → n .state ≡ Receiving r → u .here ≡ false) }
 
--- N1, N2, and the numbers of N4; m: no number is higher
+-- The node's copies of its cells, how the cells lie to each other, and the numbers of the states; m: no number is higher.
 abbrev pub Cells : ℕ → Node → View → Type 0
 Cells m n u =
     record { copies : (n .awake ≡ true → (n .took ≡ u .mine .cell 0) × (n .top ≡ u .mine .cell 1) × (n .committed ≡ u .mine .cell 2)); asleep : (n .awake ≡ false → n .state ≡ Away); took : u .mine .cell 0 ≤ u .mine .cell 1; done : u .mine .cell 2 ≤ u .mine .cell 1; parity : (0 < u .mine .cell 2 → u .mine .cell 2 % 2 ≡ u .me); most : u .mine .cell 1 ≤ m; committed : ((x : Commitment) → n .state ≡ Committed x → (x .attempt ≡ u .mine .cell 1) × (u .mine .cell 2 ≡ u .mine .cell 1) × (0 < x .attempt)); receiving : ((r : Reception) → n .state ≡ Receiving r → (r .attempt ≡ u .mine .cell 1) × (r .attempt % 2 ≡ u .you) × (r .next ≤ m)) }
 
--- T1, T2, T3, T5
+-- How the cells of both hosts lie to each other: who has the guest has the higher number, and has resumed it for the other's last attempt.
 abbrev pub Order : View → Type 0
 Order u =
     record { later : (u .here ≡ true → u .theirs .cell 1 ≤ u .mine .cell 1); had : (u .here ≡ true → 0 < u .theirs .cell 1 → u .theirs .cell 1 % 2 ≡ u .you → u .theirs .cell 1 ≤ u .mine .cell 0); begun : u .mine .cell 2 ≤ u .theirs .cell 1; untaken : (u .here ≡ true → 0 < u .mine .cell 1 → u .mine .cell 2 ≡ u .mine .cell 1 → u .theirs .cell 0 < u .mine .cell 1) }
 
--- R, but for letters: it's committed here, and the other still receives
+-- It's committed here, and the other still receives: the guest stands here, and all of its pages are there.
 abbrev pub Given : View → Type 0
 Given u =
     record { runs : u .runs ≡ false; lost : u .lost ≡ false; here : u .here ≡ true; wish : u .wish ≡ true; same : ((p : ℕ) → p < u .pages → u .theirs .page p ≡ u .truth p) }
@@ -145,22 +145,22 @@ abbrev pub Commits : Node → View → Type 0
 Commits o u =
     (r : Reception) → o .state ≡ Receiving r → r .attempt ≡ u .mine .cell 1 → u .mine .cell 2 ≡ u .mine .cell 1 → Given u
 
--- C4, but for letters: the other receives it
+-- The other receives transfer c up to the place next: what isn't unsent, written or on its way is there as it is here.
 abbrev pub Under : ℕ → Transfer → View → Type 0
 Under next c u =
     record { low : c .window .base ≤ next; high : next ≤ end c; same : ((p : ℕ) → p < u .pages → unsent c p ≡ false → u .mine .touched p ≡ false → (Flies c p next → ⊥) → u .theirs .page p ≡ u .mine .page p) }
 
--- N4, T4, C1, C3, C4
+-- A transfer: its number is the host's own and its highest, neither committed nor taken; and what the other has of it.
 abbrev pub Carries : ℕ → Transfer → Node → View → Type 0
 Carries m c o u =
     record { attempt : c .attempt ≡ u .mine .cell 1; own : c .attempt % 2 ≡ u .me; done : u .mine .cell 2 < c .attempt; took : u .theirs .cell 0 < c .attempt; most : end c ≤ m; ways : ((k : ℕ) → k < c .window .len → slot c k < u .pages); base : (u .theirs .cell 1 < c .attempt → c .window .base ≡ 0); every : (u .theirs .cell 1 < c .attempt → (p : ℕ) → p < u .pages → unsent c p ≡ false → Flies c p 0); under : ((r : Reception) → o .state ≡ Receiving r → r .attempt ≡ c .attempt → Under (r .next) c u) }
 
--- and C7
+-- Whatever is transferred is carried; and of a guest that was stopped, the pages that were looked at are sent.
 abbrev pub Copy : ℕ → Node → Node → View → Type 0
 Copy m n o u =
     record { carries : ((c : Transfer) → moving (n .state) ≡ Some c → Carries m c o u); below : ((x : Pause) → n .state ≡ Paused x → (p : ℕ) → p < x .transfer .cursor → (unsent (x .transfer) p ≡ false) × (u .mine .touched p ≡ false)) }
 
--- C2, C5: a Page letter l of the other's transfer c
+-- A Page letter l of the other's transfer c: its place is the page's, and its words are the page's unless that was written or isn't sent.
 abbrev pub Bears : List ℕ → Transfer → Node → View → Type 0
 Bears l c n u =
     record { high : placeOf l < end c; slot : (c .window .base ≤ placeOf l → slot c (placeOf l - c .window .base) ≡ pageOf l); soon : (u .mine .cell 1 < c .attempt → unsent c (pageOf l) ≡ false → u .theirs .touched (pageOf l) ≡ false → wordsOf l ≡ u .theirs .page (pageOf l)); now : ((r : Reception) → n .state ≡ Receiving r → r .attempt ≡ c .attempt → r .next ≤ placeOf l → unsent c (pageOf l) ≡ false → u .theirs .touched (pageOf l) ≡ false → wordsOf l ≡ u .theirs .page (pageOf l)) }
@@ -168,7 +168,7 @@ Bears l c n u =
 abbrev pub From : List ℕ → View → Type 0
 From l u = record { own : attemptOf l % 2 ≡ u .you; some : 1 ≤ attemptOf l; begun : attemptOf l ≤ u .theirs .cell 1 }
 
--- L1 to L5, R, C2, C4, C5 of a letter l that may come to n; all that is said of letters is said of each alone
+-- A letter l that may come to n, by its kind. All that is said of letters is said of each alone.
 abbrev pub Legit : ℕ → List ℕ → Node → Node → View → Type 0
 Legit m l n o u =
     record { probe : (kindOf l ≡ 1 → From l u); page : (kindOf l ≡ 2 → From l u); commit : (kindOf l ≡ 3 → record { own : attemptOf l % 2 ≡ u .you; some : 1 ≤ attemptOf l; done : attemptOf l ≤ u .theirs .cell 2; past : (attemptOf l < u .theirs .cell 1 → NotReceiving (attemptOf l) n) }); ack : (kindOf l ≡ 4 → record { own : attemptOf l % 2 ≡ u .me; begun : attemptOf l ≤ u .theirs .cell 1 }); refuse : (kindOf l ≡ 5 → record { own : attemptOf l % 2 ≡ u .me; begun : attemptOf l ≤ u .theirs .cell 1; dead : (attemptOf l ≡ u .mine .cell 1 → NotReceiving (attemptOf l) o); untaken : (attemptOf l ≡ u .mine .cell 1 → u .theirs .cell 0 < attemptOf l) }); taken : (kindOf l ≡ 6 → record { own : attemptOf l % 2 ≡ u .me; took : attemptOf l ≤ u .theirs .cell 0 }); place : (kindOf l ≡ 2 → placeOf l < m); given : (kindOf l ≡ 2 → (r : Reception) → n .state ≡ Receiving r → r .attempt ≡ attemptOf l → attemptOf l ≡ u .theirs .cell 1 → u .theirs .cell 2 ≡ u .theirs .cell 1 → placeOf l < r .next); bears : (kindOf l ≡ 2 → (c : Transfer) → moving (o .state) ≡ Some c → attemptOf l ≡ c .attempt → Bears l c n u); acked : (kindOf l ≡ 4 → (c : Transfer) → moving (n .state) ≡ Some c → attemptOf l ≡ c .attempt → (r : Reception) → o .state ≡ Receiving r → r .attempt ≡ c .attempt → placeOf l ≤ r .next) }
@@ -205,7 +205,7 @@ pub record Whole (i m : ℕ) (hand : List (List ℕ)) (n o : Node) (w : World) :
 abbrev pub fresh : ℕ → Bool → Node
 fresh i b = record { me = i; awake = b; took = 0; top = 0; committed = 0; asked = None; state = cond b (Running (record { wanted = false })) Away }
 
--- what a turn may count on: there is another, and k more attempts can be counted
+-- what a turn may count on: there is another, and numbers and places can grow by k
 pub record Ready (k : ℕ) (hand : List (List ℕ)) (n : Node) (w : World) : Type 0 where
   pub i : ℕ
   pub m : ℕ
@@ -252,9 +252,3 @@ pub record Acked (c d : Transfer) (s : ℕ) : Type 0 where
   pub low : c .window .base ≤ s
   pub old : (k : ℕ) → k < d .window .len → slot d k ≡ slot c (k + (s - c .window .base))
   pub kept : (q : ℕ) → unsent d q ≡ unsent c q
-
--- while a scan goes on: the window's pages are below the cursor
-pub record Scans (c : Transfer) (pages : ℕ) : Type 0 where
-  pub room : c .window .len < 62
-  pub more : c .cursor < pages
-  pub below : (k : ℕ) → k < c .window .len → slot c k < c .cursor

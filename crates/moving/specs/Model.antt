@@ -208,7 +208,7 @@ Enough most (Paused x) = 2 + 2 * x .transfer .window .len ≤ most
 Enough most (Committed x) = 1 ≤ most
 
 -- A TURN'S BEGINNING AND END
--- A node that has read its cells; if its last own attempt is committed, it says so again.
+-- A node that has read its cells; if its highest attempt is its own and committed, it says so again.
 abbrev pub woke : (took top committed : ℕ) → Node → Node
 woke a b c n =
     record { me = n .me; awake = true; took = a; top = b; committed = c; asked = n .asked; state = cond ((eqb c b && ltb 0 b) && eqb (b % 2) (n .me)) (Committed (record { attempt = b; mine = false; turns = 0 })) (n .state) }

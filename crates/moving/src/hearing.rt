@@ -93,7 +93,7 @@ impl Node {
         Ok(())
     }
 
-    // The other host has committed its attempt: all of its letters are put here, so the guest goes on here.
+    // The other host has committed its attempt: all of its pages are put here, so the guest goes on here.
     fn committed<P: Place>(&mut self, w: &mut P, l: &Letter) -> Result<(), Down>
         requires soon { ⌜ Soon 1 (world (now w)) ⌝ }
         requires awake { ⌜ now self .awake ≡ true ⌝ }
@@ -285,7 +285,7 @@ impl Node {
         Ok(1)
     }
 
-    // All that has come, 64 letters at most: how often may still be asked, of `most`.
+    // All that has come, 64 letters at most: how often may still be asked at least, of `most`.
     pub fn hear<P: Place>(&mut self, w: &mut P, most: u32) -> Result<u32, Down>
         requires soon { ⌜ Soon most (world (now w)) ⌝ }
         requires enough { ⌜ 128 ≤ most ⌝ }

@@ -171,7 +171,7 @@ pub fn node_is_small() -> bool
     std::mem::size_of::<Node>() <= 65536
 }
 
-// THE FIRST PROMISE. Whatever the guest writes, whatever the line does, whichever host falls, and however long a round is waited for:
+// THE FIRST PROMISE. Whatever the guest writes, whatever the line does, whichever host falls, and however long the guest stands still:
 // `resume`, `stop` and `put` are only asked for when they may be.
 pub fn safe_nights<W: Place + AnySky>(w: &mut W, many: u64)
     requires starts { ⌜ AtStart (world (now w)) ⌝ }

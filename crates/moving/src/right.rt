@@ -1,4 +1,4 @@
-// The right to resume the guest here: a value that can't be copied. Only this module makes one.
+// The right to resume the guest here: a value that can't be copied, so it is used once. That it's made only when it may be is in `resume`'s contract.
 ghost use mathlib.Core.Path.{_≡_};
 ghost use Prim.Native.Nat.{ℕ};
 ghost use Rattle.std.specs.Results.{isOk};
@@ -34,7 +34,7 @@ impl Right {
         Right { attempt }
     }
 
-    // All letters of an attempt are put here, and it's committed.
+    // All pages of an attempt are put here, and it's committed.
     pub fn received(attempt: u64) -> Right
         ensures { λ r. ⌜ r .attempt ≡ attempt ⌝ }
     {

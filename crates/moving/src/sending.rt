@@ -112,7 +112,7 @@ impl Transfer {
         asks::send(w, &l)
     }
 
-    // Looks at the page at the cursor, and sends it if it was written since it was last sent: how many were sent.
+    // Looks at the page at the cursor, and sends it if it was written since it was last asked for or was never sent: how many were sent.
     fn look<P: Place>(&mut self, w: &mut P) -> Result<u32, Down>
         requires soon { ⌜ Soon 3 (world (now w)) ⌝ }
         requires sound { ⌜ Sound (now self .window) ⌝ }

@@ -60,7 +60,6 @@ impl Play {
         requires { ⌜ AtStart (worldOf (now hosts)) ⌝ }
         ensures { λ r. ⌜ Playing r (worldOf (now (hosts .entry))) ⌝ }
     {
-        let _pages = hosts.pages();
         Play {
             zero: Node::new(0, true),
             one: Node::new(1, false),
