@@ -90,7 +90,7 @@ looks-attempt : {x y : Transfer} {bs : List Bool} → Looks x bs y → y .attemp
 looks-attempt none = refl
 looks-attempt (more bs b y z l k) = k .attempt ∙ looks-attempt l
 
-pub gone-attempt : {x y : Transfer} → GoneOn x y → y .attempt ≡ x .attempt
+pub gone-attempt : {pages most : ℕ} {x y : Transfer} → GoneOn pages most x y → y .attempt ≡ x .attempt
 gone-attempt {x = x} g =
     elim (cases-lt 0 (x .window .len)) [ inl l ↦ ap (λ (c : Transfer). c .attempt) (g .same l) | inr l ↦ looks-attempt (g .goes (omega arith) .looks) ]
 

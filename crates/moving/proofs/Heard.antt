@@ -3,7 +3,7 @@
 use mathlib.Core.Path.{_≡_, refl, sym, _∙_, ap, subst, subst⁻¹, subst₂}
 use mathlib.Core.Bool.{Bool, true, false, cond, _&&_}
 use mathlib.Core.Logic.{inl, inr}
-use mathlib.Core.List.{List, [], _∷_, List·Memᴰ·head}
+use mathlib.Core.List.{List, [], _∷_, _++_, List·Memᴰ·head}
 use Prim.Native.Nat.{ℕ, _+_, _-_, _%_, _<_, _≤_}
 use native.Mathlib.Omega.{arith}
 use lib.Dec.{eqb, ltb, leb}
@@ -32,6 +32,7 @@ use Rattle.moving.specs.declared.state.State.{State}
 use Rattle.moving.specs.declared.state.State.the-variants.{Away, Receiving, Running, Copying, Paused, Committed}
 use Rattle.moving.specs.Hosts.{World, put, me, other, kept, putPage, resumed, MayResume, Gets}
 use Rattle.moving.specs.Used.{Used}
+use Rattle.moving.specs.Acted.{Heard, OneHeard, OneHeard.nothing, OneHeard.letter, Hears.more}
 use Rattle.moving.specs.Model.{moving, onState, onTop, runsAgain, askedFor, begins, probed, isNext, received, receives, taken, refusedIn, resumes, refused, acked, ackedIn, goneIn, byKind, heeded, Windowed, Tidy}
 use Rattle.moving.specs.Invariant.{View, see, Acked, slot, Legit, Side, Both, Whole}
 use Rattle.moving.proofs.Views.{put-same, put-other, apart, whole-at}
@@ -437,3 +438,9 @@ still-none pages l n h = go (l .kind)
     go Ack = acks (l .attempt) (l .place) (n .state) h
     go Refuse = refuses (l .attempt) (n .state) h
     go Taken = takes (l .attempt) (n .state) h
+
+-- LETTERS IN A ROW: one more, or none
+pub hear-more : {pages p k : ℕ} {n x y : Node} → p ≡ pages → Heard pages n x → OneHeard p k x y → Heard pages n y
+hear-more {pages = pages} {n = n} e h (nothing q) = subst⁻¹ (λ (z : Node). Heard pages n z) q h
+hear-more {pages = pages} {n = n} {x = x} e h (letter l o q) =
+    subst⁻¹ (λ (z : Node). Heard pages n z) (q ∙ ap (λ p. heeded p l x) e) (record { letters = h .letters ++ l ∷ []; hears = more (h .letters) l x (h .hears) })

@@ -1,3 +1,4 @@
+pub mod Acted
 pub mod Hosts
 pub mod Invariant
 pub mod Model

@@ -3,7 +3,8 @@
 use mathlib.Core.Path.{_≡_}
 use mathlib.Core.Bool.{Bool, cond, not, _&&_, _||_}
 use mathlib.Core.List.{List, [], _∷_, _++_}
-use Prim.Native.Nat.{ℕ, _+_, _<_, min}
+use mathlib.Core.Logic.{_⊎_}
+use Prim.Native.Nat.{ℕ, _+_, _-_, _*_, _<_, _≤_, min}
 use lib.Dec.{eqb}
 use Rattle.window.specs.Pages.{pushed}
 use Rattle.pageset.specs.Member.{member}
@@ -41,12 +42,16 @@ pub data Looks (x : Transfer) : List Bool → Transfer → Type 0 where
   none : Looks x [] x
   more : (bs : List Bool) (b : Bool) (y z : Transfer) → Looks x bs y → Looked b y z → Looks x (bs ++ b ∷ []) z
 
--- A part of a pass: what becomes of the transfer is said by what was answered.
-pub record Scanned (x y : Transfer) : Type 0 where
+-- A part of a pass, over so many pages and with so many asks at most, from x, whose window is empty: what becomes of the transfer is said
+-- by what was answered. A look costs an ask, and two more if the page is sent; it ends when fewer than three are left, or the window is full,
+-- or all pages were looked at.
+pub record Scanned (pages most : ℕ) (x y : Transfer) : Type 0 where
   pub answers : List Bool
   pub looks : Looks x answers y
+  pub cost : y .cursor + 2 * y .window .len ≤ x .cursor + most
+  pub ends : (x .cursor + most < y .cursor + 2 * y .window .len + 3) ⊎ ((y .window .len ≡ 62) ⊎ (pages ≤ y .cursor))
 
--- What is on its way is sent again, and nothing else changes; if nothing is, the pass goes on.
-pub record GoneOn (x y : Transfer) : Type 0 where
+-- With so many asks at most: what is on its way is sent again, and nothing else changes; if nothing is, the pass goes on.
+pub record GoneOn (pages most : ℕ) (x y : Transfer) : Type 0 where
   pub same : 0 < x .window .len → y ≡ x
-  pub goes : x .window .len ≡ 0 → Scanned x y
+  pub goes : x .window .len ≡ 0 → Scanned pages (most - 1) x y

@@ -1,6 +1,6 @@
 // What a node does by itself in its turn.
 ghost use mathlib.Core.Path.{_≡_};
-ghost use mathlib.Core.Bool.{Bool, true, false};
+ghost use mathlib.Core.Bool.{Bool, true, false, _||_};
 ghost use mathlib.Core.List.{List, []};
 ghost use Prim.Native.Nat.{ℕ, _+_, _-_, _*_, _%_, _<_, _≤_};
 ghost use Rattle.std.specs.Results.{isOk};
@@ -8,7 +8,9 @@ ghost use Rattle.std.specs.Vec.{made};
 ghost use Rattle.std.specs.declared.option.Option.the-variants.{Some, None};
 ghost use Rattle.window.specs.Pages.{Sound};
 ghost use Rattle.moving.specs.Used.{Soon, Used};
-ghost use Rattle.moving.specs.Model.{Tidy, onState, onTop, Enough};
+ghost use Rattle.moving.specs.Hosts.{me};
+ghost use Rattle.moving.specs.Model.{Tidy, onState, onTop, Enough, ticked, afresh};
+ghost use Rattle.moving.specs.Acted.{Copies, New, RunDid, CopyDid, PauseDid, ActedIn, commits, saidAgain, tookFor};
 ghost use Rattle.moving.specs.Invariant.{Ready, Keeps};
 use super::Down;
 use super::Node;
@@ -49,6 +51,7 @@ impl Node {
         requires ready { ⌜ Ready 0 [] (onState (State.Running x) (now self)) (world (now w)) ⌝ }
         ensures used { λ r. ⌜ Used 1 (world (now (w .entry))) (isOk r) (world (now (w .exit))) ⌝ }
         ensures is { λ r. ⌜ made r (λ b. (now (self .exit)) ≡ onState (State.Running (record { wanted = b })) (now (self .entry))) ⌝ }
+        ensures value { λ r. ⌜ made r (λ b. b ≡ (x .wanted || me (world (now (w .entry))) .told)) ⌝ }
         ensures keeps { λ r. ⌜ Keeps 0 [] (onState (State.Running x) (now (self .entry))) (world (now (w .entry))) r (λ _. now (self .exit)) (world (now (w .exit))) ⌝ }
     {
         if x.wanted {
@@ -70,6 +73,7 @@ impl Node {
         ensures used { λ r. ⌜ Used 1 (world (now (w .entry))) (isOk r) (world (now (w .exit))) ⌝ }
         ensures is { λ r. ⌜ made r (λ c. (now (self .exit)) ≡ onTop (c .attempt) (now (self .entry) .state) (now (self .entry))) ⌝ }
         ensures new { λ r. ⌜ made r (λ c. Sound (c .window) × (c .window .len ≡ 0) × (now (self .entry) .top < c .attempt)) ⌝ }
+        ensures pass { λ r. ⌜ made r (λ c. New (world (now (w .entry)) .pages) (now (self .entry)) c) ⌝ }
         ensures keeps { λ r. ⌜ Keeps 2 [] (now (self .entry)) (world (now (w .entry))) r (λ c. onState (State.Copying c) (now (self .exit))) (world (now (w .exit))) ⌝ }
     {
         let t = next_attempt(self.top, self.me);
@@ -89,6 +93,7 @@ impl Node {
         ensures used { λ r. ⌜ Used most (world (now (w .entry))) (isOk r) (world (now (w .exit))) ⌝ }
         ensures tidy { λ r. ⌜ made r (λ _. Tidy (now (self .exit))) ⌝ }
         ensures awake { λ r. ⌜ made r (λ _. now (self .exit) .awake ≡ true) ⌝ }
+        ensures is { λ r. ⌜ made r (λ _. RunDid (world (now (w .entry)) .pages) most (me (world (now (w .entry))) .told) x (onState State.Away (now (self .entry))) (now (self .exit))) ⌝ }
         ensures keeps { λ r. ⌜ Keeps 64 [] (onState (State.Running x) (now (self .entry))) (world (now (w .entry))) r (λ _. now (self .exit)) (world (now (w .exit))) ⌝ }
     {
         if !self.wants(w, x)? {
@@ -110,6 +115,7 @@ impl Node {
         ensures used { λ r. ⌜ Used most (world (now (w .entry))) (isOk r) (world (now (w .exit))) ⌝ }
         ensures tidy { λ r. ⌜ made r (λ _. Tidy (now (self .exit))) ⌝ }
         ensures awake { λ r. ⌜ made r (λ _. now (self .exit) .awake ≡ true) ⌝ }
+        ensures is { λ r. ⌜ made r (λ _. CopyDid (world (now (w .entry)) .pages) most x (onState State.Away (now (self .entry))) (now (self .exit))) ⌝ }
         ensures keeps { λ r. ⌜ Keeps 62 [] (onState (State.Copying x) (now (self .entry))) (world (now (w .entry))) r (λ _. now (self .exit)) (world (now (w .exit))) ⌝ }
     {
         if !x.is_over(w.pages()) {
@@ -145,6 +151,7 @@ impl Node {
         ensures used { λ r. ⌜ Used 2 (world (now (w .entry))) (isOk r) (world (now (w .exit))) ⌝ }
         ensures tidy { λ r. ⌜ made r (λ _. Tidy (now (self .exit))) ⌝ }
         ensures awake { λ r. ⌜ made r (λ _. now (self .exit) .awake ≡ true) ⌝ }
+        ensures is { λ r. ⌜ made r (λ _. now (self .exit) ≡ commits (x .transfer .attempt) (now (self .entry))) ⌝ }
         ensures keeps { λ r. ⌜ Keeps 0 [] (onState (State.Paused x) (now (self .entry))) (world (now (w .entry))) r (λ _. now (self .exit)) (world (now (w .exit))) ⌝ }
     {
         let attempt = x.transfer.attempt;
@@ -169,6 +176,7 @@ impl Node {
         ensures used { λ r. ⌜ Used most (world (now (w .entry))) (isOk r) (world (now (w .exit))) ⌝ }
         ensures tidy { λ r. ⌜ made r (λ _. Tidy (now (self .exit))) ⌝ }
         ensures awake { λ r. ⌜ made r (λ _. now (self .exit) .awake ≡ true) ⌝ }
+        ensures is { λ r. ⌜ made r (λ _. Copies (world (now (w .entry)) .pages) (most - 1) (ticked (afresh (x .transfer))) (tookFor (x .transfer .attempt) (onState State.Away (now (self .entry)))) (now (self .exit))) ⌝ }
         ensures keeps { λ r. ⌜ Keeps 62 [] (onState (State.Paused x) (now (self .entry))) (world (now (w .entry))) r (λ _. now (self .exit)) (world (now (w .exit))) ⌝ }
     {
         let Paused {
@@ -194,6 +202,7 @@ impl Node {
         ensures used { λ r. ⌜ Used most (world (now (w .entry))) (isOk r) (world (now (w .exit))) ⌝ }
         ensures tidy { λ r. ⌜ made r (λ _. Tidy (now (self .exit))) ⌝ }
         ensures awake { λ r. ⌜ made r (λ _. now (self .exit) .awake ≡ true) ⌝ }
+        ensures is { λ r. ⌜ made r (λ _. PauseDid (world (now (w .entry)) .pages) most x (onState State.Away (now (self .entry))) (now (self .exit))) ⌝ }
         ensures keeps { λ r. ⌜ Keeps 62 [] (onState (State.Paused x) (now (self .entry))) (world (now (w .entry))) r (λ _. now (self .exit)) (world (now (w .exit))) ⌝ }
     {
         if x.transfer.is_over(w.pages()) {
@@ -226,6 +235,7 @@ impl Node {
         ensures used { λ r. ⌜ Used 1 (world (now (w .entry))) (isOk r) (world (now (w .exit))) ⌝ }
         ensures tidy { λ r. ⌜ made r (λ _. Tidy (now (self .exit))) ⌝ }
         ensures awake { λ r. ⌜ made r (λ _. now (self .exit) .awake ≡ true) ⌝ }
+        ensures is { λ r. ⌜ made r (λ _. now (self .exit) ≡ saidAgain x (now (self .entry))) ⌝ }
         ensures keeps { λ r. ⌜ Keeps 0 [] (onState (State.Committed x) (now (self .entry))) (world (now (w .entry))) r (λ _. now (self .exit)) (world (now (w .exit))) ⌝ }
     {
         self.state = State::Committed(Committed {
@@ -247,6 +257,7 @@ impl Node {
         ensures used { λ r. ⌜ Used most (world (now (w .entry))) (isOk r) (world (now (w .exit))) ⌝ }
         ensures tidy { λ r. ⌜ made r (λ _. Tidy (now (self .exit))) ⌝ }
         ensures awake { λ r. ⌜ made r (λ _. now (self .exit) .awake ≡ true) ⌝ }
+        ensures is { λ r. ⌜ made r (λ _. ActedIn (world (now (w .entry)) .pages) most (me (world (now (w .entry))) .told) (now (self .entry) .state) (onState State.Away (now (self .entry))) (now (self .exit))) ⌝ }
         ensures keeps { λ r. ⌜ Keeps 64 [] (now (self .entry)) (world (now (w .entry))) r (λ _. now (self .exit)) (world (now (w .exit))) ⌝ }
     {
         let state = std::mem::replace(&mut self.state, State::Away);
@@ -255,10 +266,11 @@ impl Node {
             State::Copying(x) => self.copy(w, x, most),
             State::Paused(x) => self.pause(w, x, most),
             State::Committed(x) => self.say_again(w, x),
-            other => {
-                self.state = other;
+            State::Receiving(x) => {
+                self.state = State::Receiving(x);
                 Ok(())
             }
+            State::Away => Ok(()),
         }
     }
 }

@@ -9,6 +9,7 @@ ghost use Rattle.std.specs.declared.option.Option.the-variants.{Some, None};
 ghost use Rattle.letter.specs.Words.{spelt};
 ghost use Rattle.moving.specs.Used.{Soon, Used};
 ghost use Rattle.moving.specs.Model.{Tidy, Windowed, moving, begins, probed, received, taken, refused, refusedIn, acked, ackedIn, goneIn, onState, heeded};
+ghost use Rattle.moving.specs.Acted.{Heard, OneHeard};
 ghost use Rattle.window.specs.Pages.{Sound};
 ghost use Rattle.moving.specs.Invariant.{Ready, Keeps};
 use super::Down;
@@ -272,6 +273,7 @@ impl Node {
         ensures awake { λ r. ⌜ made r (λ _. now (self .exit) .awake ≡ true) ⌝ }
         ensures tidy { λ r. ⌜ made r (λ _. Tidy (now (self .exit))) ⌝ }
         ensures idle { λ r. ⌜ made r (λ _. moving (now (self .entry) .state) ≡ None → moving (now (self .exit) .state) ≡ None) ⌝ }
+        ensures is { λ r. ⌜ made r (λ k. OneHeard (world (now (w .entry)) .pages) k (now (self .entry)) (now (self .exit))) ⌝ }
         ensures keeps { λ r. ⌜ Keeps 0 [] (now (self .entry)) (world (now (w .entry))) r (λ _. now (self .exit)) (world (now (w .exit))) ⌝ }
     {
         let mut words = [0u64; 72];
@@ -297,6 +299,7 @@ impl Node {
         ensures awake { λ r. ⌜ made r (λ _. now (self .exit) .awake ≡ true) ⌝ }
         ensures tidy { λ r. ⌜ made r (λ _. Tidy (now (self .exit))) ⌝ }
         ensures idle { λ r. ⌜ made r (λ _. moving (now (self .entry) .state) ≡ None → moving (now (self .exit) .state) ≡ None) ⌝ }
+        ensures is { λ r. ⌜ made r (λ _. Heard (world (now (w .entry)) .pages) (now (self .entry)) (now (self .exit))) ⌝ }
         ensures keeps { λ r. ⌜ Keeps 0 [] (now (self .entry)) (world (now (w .entry))) r (λ _. now (self .exit)) (world (now (w .exit))) ⌝ }
     {
         let mut left = most;

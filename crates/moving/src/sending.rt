@@ -147,7 +147,7 @@ impl Transfer {
         requires none { ⌜ now self .window .len ≡ 0 ⌝ }
         requires ready { ⌜ Carrying 62 (now self) (world (now w)) ⌝ }
         ensures used { λ r. ⌜ Used most (world (now (w .entry))) (isOk r) (world (now (w .exit))) ⌝ }
-        ensures is { λ r. ⌜ made r (λ _. Scanned (now (self .entry)) (now (self .exit))) ⌝ }
+        ensures is { λ r. ⌜ made r (λ _. Scanned (world (now (w .entry)) .pages) most (now (self .entry)) (now (self .exit))) ⌝ }
         ensures sound { λ r. ⌜ made r (λ _. Sound (now (self .exit) .window)) ⌝ }
         ensures keeps { λ r. ⌜ Carried 62 (now (self .entry)) (world (now (w .entry))) r (now (self .exit)) (world (now (w .exit))) ⌝ }
     {
@@ -182,7 +182,7 @@ impl Transfer {
         requires sound { ⌜ Sound (now self .window) ⌝ }
         requires ready { ⌜ Carrying 62 (now self) (world (now w)) ⌝ }
         ensures used { λ r. ⌜ Used most (world (now (w .entry))) (isOk r) (world (now (w .exit))) ⌝ }
-        ensures is { λ r. ⌜ made r (λ _. GoneOn (now (self .entry)) (now (self .exit))) ⌝ }
+        ensures is { λ r. ⌜ made r (λ _. GoneOn (world (now (w .entry)) .pages) most (now (self .entry)) (now (self .exit))) ⌝ }
         ensures sound { λ r. ⌜ made r (λ _. Sound (now (self .exit) .window)) ⌝ }
         ensures keeps { λ r. ⌜ Carried 62 (now (self .entry)) (world (now (w .entry))) r (now (self .exit)) (world (now (w .exit))) ⌝ }
     {

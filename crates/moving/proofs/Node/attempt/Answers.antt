@@ -18,6 +18,7 @@ returns-in-Break-keep g c =
       used = search needs;
       is = unmade _ _ e;
       new = unmade _ _ e;
+      pass = unmade _ _ e;
       keeps = ends-err 2 2 _ (c .from-residual .result) e (omega arith) (begin [] n w (c .pre .soon .up)) (c .in-Break-keep .ensures tt .does)
           (λ i z o h. new-whole n (c .new-transfer .result) (c .next-attempt-t .result) (c .pages .result) (c .pre .wanted) (c .pre .awake) (a .0) (a .1 .0) (a .1 .1) (t .attempt) (t .window .1 .0) (t .window .1 .1) (c .pages .ensures) (t .unsent) h);
     }
@@ -32,6 +33,7 @@ returns g c =
       used = search needs;
       is = ap (λ a. onTop a (n .state) n) (sym (t .attempt));
       new = (t .window .0, t .window .1 .0, search needs);
+      pass = record { above = search needs; least = search needs; own = search needs; empty = search needs; base = search needs; all = search needs; cursor = search needs; sent = search needs; turns = search needs; prev = search needs };
       keeps = ends-ok 2 (omega arith) (then-ok 2 (begin [] n w (c .pre .soon .up)) (c .in-Continue-keep .ensures tt .does) refl
           (λ i z o h. new-whole n (c .new-transfer .result) (c .next-attempt-t .result) (c .pages .result) (c .pre .wanted) (c .pre .awake) (a .0) (a .1 .0) (a .1 .1) (t .attempt) (t .window .1 .0) (t .window .1 .1) (c .pages .ensures) (t .unsent) h));
     }

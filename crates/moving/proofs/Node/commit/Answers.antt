@@ -18,6 +18,7 @@ returns-in-Break-commit g c =
       used = search needs;
       tidy = unmade _ _ e;
       awake = unmade _ _ e;
+      is = unmade _ _ e;
       keeps = ends-err 0 0 _ (c .from-residual .result) e (omega arith) (begin [] (onState (Paused (c .args .x)) (c .args .self .now)) w (c .pre .soon .up)) (c .in-Break-commit .ensures tt .does) (fine (λ i z o h. settle-whole (c .args .self .now) (c .args .x) (c .pre .tidy .windowed .1) (c .pre .none) (c .pre .all) h));
     }
 
@@ -30,6 +31,7 @@ returns-in-Break-tell g c =
       used = search needs;
       tidy = unmade _ _ e;
       awake = unmade _ _ e;
+      is = unmade _ _ e;
       keeps = tells-err 0 z _ (c .from-residual-in-Break-tell .result) e refl (then-ok 0 (begin [] (onState (Paused (c .args .x)) (c .args .self .now)) w (c .pre .soon .up)) (c .in-Continue-commit .ensures tt .does) refl (fine (λ i z o h. settle-whole (c .args .self .now) (c .args .x) (c .pre .tidy .windowed .1) (c .pre .none) (c .pre .all) h))) (c .in-Break-tell .ensures tt .posts) (omega arith);
     }
 
@@ -41,5 +43,6 @@ returns g c =
       used = search needs;
       tidy = record { windowed = tt; asked = c .pre .tidy .asked };
       awake = c .pre .awake;
+      is = refl;
       keeps = ends-ok 0 (omega arith) (tells z refl (then-ok 0 (begin [] (onState (Paused (c .args .x)) (c .args .self .now)) w (c .pre .soon .up)) (c .in-Continue-commit .ensures tt .does) refl (fine (λ i z o h. settle-whole (c .args .self .now) (c .args .x) (c .pre .tidy .windowed .1) (c .pre .none) (c .pre .all) h))) (c .in-Continue-tell .ensures tt .posts));
     }

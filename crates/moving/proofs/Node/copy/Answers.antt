@@ -1,5 +1,6 @@
-use mathlib.Core.Path.{_≡_, refl, sym, _∙_, ap, subst⁻¹}
+use mathlib.Core.Path.{_≡_, refl, sym, _∙_, ap, subst, subst⁻¹}
 use mathlib.Core.List.{[]}
+use Prim.Native.Nat.{_-_}
 use native.Mathlib.Omega.{arith}
 use borrow.Author.Needs.{needs}
 use Rattle.window.specs.Pages.{Sound}
@@ -7,6 +8,8 @@ use Rattle.moving.specs.declared.state.Transfer.{Transfer}
 use Rattle.moving.specs.declared.state.Paused.{Paused as Pause}
 use Rattle.moving.specs.declared.state.State.the-variants.{Copying, Paused}
 use Rattle.moving.specs.Model.{onState, ticked, anew}
+use Rattle.moving.specs.Scan.{GoneOn}
+use Rattle.moving.specs.Acted.{on, again, stops}
 use Rattle.moving.proofs.Ways as ways
 use Rattle.moving.proofs.Ways.{unmade, begin, fine, then-ok, then-call, ends-ok, ends-err, ends-call}
 use Rattle.moving.proofs.Acts.{ticks, ticks-anew, gone-attempt, stop-anew}
@@ -34,6 +37,7 @@ returns-in-Break-go-on g c =
       used = search needs;
       tidy = unmade _ _ e;
       awake = unmade _ _ e;
+      is = unmade _ _ e;
       keeps = ends-call 62 _ (c .from-residual .result) e (ticks n (c .args .x) y (c .tick-y .ensures) (c .pre .soon .up)) (c .in-Break-go-on .ensures tt .keeps (onState (Copying y) n) refl) (omega arith);
     }
 
@@ -45,6 +49,7 @@ returns-then-not-is-over g c =
       used = search needs;
       tidy = record { windowed = c .in-Continue-go-on .ensures tt .sound; asked = c .pre .tidy .asked };
       awake = c .pre .awake;
+      is = on (search needs) (record { after = c .go-on .last .self; goes = subst (λ d. GoneOn (g .P·Place .world (c .args .w .now) .pages) (c .args .most) d (c .go-on .last .self)) (c .tick-y .ensures) (c .in-Continue-go-on .ensures tt .is); node = refl });
       keeps = ends-ok 62 (omega arith) (then-call (ticks n (c .args .x) y (c .tick-y .ensures) (c .pre .soon .up)) (c .in-Continue-go-on .ensures tt .used .fell) (c .in-Continue-go-on .ensures tt .keeps (onState (Copying y) n) refl));
     }
 
@@ -70,6 +75,7 @@ returns-in-Break-go-on-2 g c =
       used = search needs;
       tidy = unmade _ _ e;
       awake = unmade _ _ e;
+      is = unmade _ _ e;
       keeps = ends-call 62 _ (c .from-residual-in-Break-go-on-2 .result) e (ticks-anew n (c .args .x) y (c .tick-y-2 .ensures ∙ ap ticked (c .anew .ensures)) (c .pre .soon .up)) (c .in-Break-go-on-2 .ensures tt .keeps (onState (Copying y) n) refl) (omega arith);
     }
 
@@ -81,6 +87,7 @@ returns-then-y-gt-LONG-PASS g c =
       used = search needs;
       tidy = record { windowed = c .in-Continue-go-on-2 .ensures tt .sound; asked = c .pre .tidy .asked };
       awake = c .pre .awake;
+      is = again (search needs) (search needs) (record { after = c .go-on-then-y-gt-LONG-PASS .last .self; goes = subst (λ d. GoneOn (g .P·Place .world (c .args .w .now) .pages) (c .args .most) d (c .go-on-then-y-gt-LONG-PASS .last .self)) (c .tick-y-2 .ensures ∙ ap ticked (c .anew .ensures)) (c .in-Continue-go-on-2 .ensures tt .is); node = refl });
       keeps = ends-ok 62 (omega arith) (then-call (ticks-anew n (c .args .x) y (c .tick-y-2 .ensures ∙ ap ticked (c .anew .ensures)) (c .pre .soon .up)) (c .in-Continue-go-on-2 .ensures tt .used .fell) (c .in-Continue-go-on-2 .ensures tt .keeps (onState (Copying y) n) refl));
     }
 
@@ -94,6 +101,7 @@ returns-in-Break-right g c =
       used = search needs;
       tidy = unmade _ _ e;
       awake = unmade _ _ e;
+      is = unmade _ _ e;
       keeps = ends-err 62 0 _ (c .from-residual-in-Break-right .result) e (omega arith) (begin [] (onState (Copying (c .args .x)) n) (g .P·Place .world (c .args .w .now)) (c .pre .soon .up)) (c .in-Break-right .ensures tt .does) (fine (λ i m o h. stop-anew n (c .args .x) z (c .tick-y-2 .ensures ∙ ap ticked (c .anew .ensures)) h));
     }
 
@@ -121,6 +129,7 @@ returns-in-Break-go-on-3 g c =
       used = search needs;
       tidy = unmade _ _ e;
       awake = unmade _ _ e;
+      is = unmade _ _ e;
       keeps = ends-call 62 _ (c .from-residual-in-Break-go-on-3 .result) e (then-ok 0 (begin [] (onState (Copying (c .args .x)) n) (g .P·Place .world (c .args .w .now)) (c .pre .soon .up)) (c .in-Continue-right .ensures tt .does) refl (fine (λ i m o h. stop-anew n (c .args .x) z (c .tick-y-2 .ensures ∙ ap ticked (c .anew .ensures)) h))) (c .in-Break-go-on-3 .ensures tt .keeps (onState (Paused z) n) refl) (omega arith);
     }
 
@@ -133,5 +142,6 @@ returns g c =
       used = search needs;
       tidy = record { windowed = (c .in-Continue-go-on-3 .ensures tt .sound, c .in-Continue-right .ensures tt .right ∙ sym (gone-attempt (c .in-Continue-go-on-3 .ensures tt .is))); asked = c .pre .tidy .asked };
       awake = c .pre .awake;
+      is = stops (search needs) (search needs) (record { after = c .go-on-2 .last .self; goes = subst (λ d. GoneOn (g .P·Place .world (c .args .w .now) .pages) (c .args .most - 1) d (c .go-on-2 .last .self)) (c .tick-y-2 .ensures ∙ ap ticked (c .anew .ensures)) (subst (λ p. GoneOn p (c .args .most - 1) y (c .go-on-2 .last .self)) (c .in-Continue-right .ensures tt .used .pages) (c .in-Continue-go-on-3 .ensures tt .is)); node = search needs });
       keeps = ends-ok 62 (omega arith) (then-call (then-ok 0 (begin [] (onState (Copying (c .args .x)) n) (g .P·Place .world (c .args .w .now)) (c .pre .soon .up)) (c .in-Continue-right .ensures tt .does) refl (fine (λ i m o h. stop-anew n (c .args .x) z (c .tick-y-2 .ensures ∙ ap ticked (c .anew .ensures)) h))) (c .in-Continue-go-on-3 .ensures tt .used .fell) (c .in-Continue-go-on-3 .ensures tt .keeps (onState (Paused z) n) refl));
     }

@@ -2,7 +2,8 @@ use mathlib.Core.Path.{refl, _∙_}
 use mathlib.Core.List.{[]}
 use native.Mathlib.Omega.{arith}
 use borrow.Author.Needs.{needs}
-use Rattle.moving.proofs.Heard.{used-more, used-err}
+use Rattle.moving.specs.Acted.{none}
+use Rattle.moving.proofs.Heard.{used-more, used-err, hear-more}
 use Rattle.moving.proofs.Ways.{unmade, begin, then-call, ends-ok, ends-call, ready}
 use Rattle.moving.proofs.Node.hear.Needs as need
 
@@ -16,6 +17,7 @@ loop-n-holds g c =
       awake = c .pre .awake;
       tidy = c .pre .tidy;
       idle = λ e. e;
+      is = record { letters = []; hears = none };
       so = begin [] (c .args .self .now) (g .P·Place .world (c .args .w .now)) (c .pre .soon .up);
     }
 
@@ -36,6 +38,7 @@ returns-in-Break-k g c =
       awake = unmade (c .from-residual .result) _ (c .from-residual .ensures .0);
       tidy = unmade (c .from-residual .result) _ (c .from-residual .ensures .0);
       idle = unmade (c .from-residual .result) _ (c .from-residual .ensures .0);
+      is = unmade (c .from-residual .result) _ (c .from-residual .ensures .0);
       keeps = ends-call 0 _ (c .from-residual .result) (c .from-residual .ensures .0) (c .loop-n .inv .so) (c .in-Break-k .ensures tt .keeps) (omega arith);
     }
 
@@ -54,6 +57,7 @@ loop-n-again g c =
       awake = c .in-Continue-k .ensures tt .awake;
       tidy = c .in-Continue-k .ensures tt .tidy;
       idle = λ e. c .in-Continue-k .ensures tt .idle (c .loop-n .inv .idle e);
+      is = hear-more (c .loop-n .inv .used .pages) (c .loop-n .inv .is) (c .in-Continue-k .ensures tt .is);
       so = then-call (c .loop-n .inv .so) (u .fell) (c .in-Continue-k .ensures tt .keeps);
     }
 
@@ -65,6 +69,7 @@ returns-else-more g c =
       awake = c .loop-n .inv .awake;
       tidy = c .loop-n .inv .tidy;
       idle = c .loop-n .inv .idle;
+      is = c .loop-n .inv .is;
       keeps = ends-ok 0 (omega arith) (c .loop-n .inv .so);
     }
 
@@ -76,5 +81,6 @@ returns-after-loop-n g c =
       awake = c .loop-n .inv .awake;
       tidy = c .loop-n .inv .tidy;
       idle = c .loop-n .inv .idle;
+      is = c .loop-n .inv .is;
       keeps = ends-ok 0 (omega arith) (c .loop-n .inv .so);
     }

@@ -5,6 +5,7 @@ use Prim.Native.Nat.{_≤_, _+_, _-_, _*_}
 use Rattle.std.specs.declared.option.Option.the-variants.{None}
 use Rattle.moving.specs.Used.{Used}
 use Rattle.moving.specs.Model.{Tidy, moving}
+use Rattle.moving.specs.Acted.{Heard}
 use Rattle.moving.proofs.Ways.{SoFar}
 use Rattle.moving.proofs.Node.hear.Given as given
 
@@ -18,6 +19,7 @@ Inv-loop-n g l =
       awake : l .self .awake ≡ true;
       tidy : Tidy (l .self);
       idle : (moving (l .entry .self .state) ≡ None → moving (l .self .state) ≡ None);
+      is : Heard (g .P·Place .world (l .entry .w) .pages) (l .entry .self) (l .self);
       so : SoFar [] (l .entry .self) (g .P·Place .world (l .entry .w)) 0 [] (l .self) (g .P·Place .world (l .w));
     }
 

@@ -1,4 +1,4 @@
-use mathlib.Core.Path.{_≡_, refl, sym, _∙_, ap, subst⁻¹}
+use mathlib.Core.Path.{_≡_, refl, sym, _∙_, ap, subst, subst⁻¹}
 use mathlib.Core.List.{[]}
 use Prim.Native.Nat.{_+_}
 use native.Mathlib.Omega.{arith}
@@ -8,6 +8,8 @@ use Rattle.moving.specs.declared.state.Transfer.{Transfer}
 use Rattle.moving.specs.declared.state.Paused.{Paused as Pause}
 use Rattle.moving.specs.declared.state.State.the-variants.{Paused}
 use Rattle.moving.specs.Model.{onState, ticked}
+use Rattle.moving.specs.Scan.{GoneOn}
+use Rattle.moving.specs.Acted.{settles, resumes, goes}
 use Rattle.moving.proofs.Ways as ways
 use Rattle.moving.proofs.Ways.{unmade, begin, then-call, ends-ok, ends-call, ends-tail}
 use Rattle.moving.proofs.Acts.{ticks-paused, gone-attempt}
@@ -19,6 +21,7 @@ returns-then-is-over g c =
       used = search needs;
       tidy = c .commit .ensures .tidy;
       awake = c .commit .ensures .awake;
+      is = search needs;
       keeps = ends-tail 62 (begin [] (onState (Paused (c .args .x)) (c .args .self .now)) (g .P·Place .world (c .args .w .now)) (c .pre .soon .up)) (c .commit .ensures .keeps) (omega arith);
     }
 
@@ -48,6 +51,7 @@ returns-in-Break-go-on g c =
       used = search needs;
       tidy = unmade _ _ e;
       awake = unmade _ _ e;
+      is = unmade _ _ e;
       keeps = ends-call 62 _ (c .from-residual .result) e (ticks-paused n x y (x .turns + 1) (c .tick-y .ensures) (c .pre .soon .up)) (c .in-Break-go-on .ensures tt .keeps (onState (Paused z) n) refl) (omega arith);
     }
 
@@ -61,5 +65,6 @@ returns g c =
       used = search needs;
       tidy = record { windowed = (c .in-Continue-go-on .ensures tt .sound, c .pre .tidy .windowed .1 ∙ ap (λ (d : Transfer). d .attempt) (sym (c .tick-y .ensures)) ∙ sym (gone-attempt (c .in-Continue-go-on .ensures tt .is))); asked = c .pre .tidy .asked };
       awake = c .pre .awake;
+      is = goes (search needs) (search needs) (record { after = c .go-on .last .self; goes = subst (λ d. GoneOn (g .P·Place .world (c .args .w .now) .pages) (c .args .most) d (c .go-on .last .self)) (c .tick-y .ensures) (c .in-Continue-go-on .ensures tt .is); node = refl });
       keeps = ends-ok 62 (omega arith) (then-call (ticks-paused n x y (x .turns + 1) (c .tick-y .ensures) (c .pre .soon .up)) (c .in-Continue-go-on .ensures tt .used .fell) (c .in-Continue-go-on .ensures tt .keeps (onState (Paused z) n) refl));
     }

@@ -16,6 +16,7 @@ returns-in-Break-told g c =
     record {
       used = search needs;
       is = unmade _ _ e;
+      value = unmade _ _ e;
       keeps = ends-err 0 0 _ (c .from-residual .result) e (omega arith) (begin [] (onState (Running (c .args .x)) (c .args .self .now)) w (c .pre .soon .up)) (c .in-Break-told .ensures tt .does) (fine (λ i z o h. told-any (c .args .self .now) (c .args .x) (me w .told) (c .if-x .left) refl h));
     }
 
@@ -24,5 +25,6 @@ returns g c =
     record {
       used = search needs;
       is = refl;
+      value = search needs;
       keeps = ends-ok 0 (omega arith) (then-ok 0 (begin [] (onState (Running (c .args .x)) (c .args .self .now)) (g .P·Place .world (c .args .w .now)) (c .pre .soon .up)) (c .in-Continue-told .ensures tt .does) refl (fine (λ i z o h. told-any (c .args .self .now) (c .args .x) (c .in-Continue-told .told) (c .if-x .left) (c .in-Continue-told .ensures tt .value) h)));
     }

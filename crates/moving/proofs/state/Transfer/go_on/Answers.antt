@@ -5,6 +5,7 @@ use native.Mathlib.Omega.{arith}
 use borrow.Author.Needs.{needs}
 use borrow.Author.Tests.{eqb-false, eqb-true}
 use Rattle.moving.specs.Model.{carrying}
+use Rattle.moving.specs.Scan.{Scanned}
 use Rattle.moving.proofs.Ways as ways
 use Rattle.moving.proofs.Ways.{SoFar, begin, then-call, posted, posts-ends, ends-ok, ends-call, unmade, less-ready}
 use Rattle.moving.proofs.Carries.{probes, probes-err}
@@ -71,7 +72,7 @@ returns g c =
     let z = eqb-true (x .window .len) 0 (sym (c .is-empty .ensures) ∙ c .if-not-is-empty .left) in
     record {
       used = search needs;
-      is = record { same = λ lt. absurd (omega arith); goes = λ _. c .in-Continue-scan .ensures tt .is };
+      is = record { same = λ lt. absurd (omega arith); goes = λ _. subst (λ p. Scanned p (c .args .most - 1) x (c .scan .last .self)) (c .in-Continue-tell .ensures tt .used .pages) (c .in-Continue-scan .ensures tt .is) };
       sound = c .in-Continue-scan .ensures tt .sound;
       keeps = λ n has. ends-ok 62 (omega arith) (then-call (probes x n has (c .pre .soon .up) (c .in-Continue-tell .ensures tt .posts)) (c .in-Continue-scan .ensures tt .used .fell) (c .in-Continue-scan .ensures tt .keeps n has));
     }

@@ -1,9 +1,10 @@
 use mathlib.Core.Path.{_≡_, refl, sym, _∙_, ap, subst}
 use mathlib.Core.List.{[]}
+use mathlib.Core.Logic.{inl, inr}
 use Prim.Native.Nat.{ℕ, _+_, _-_, _*_, _<_, _≤_}
 use native.Mathlib.Omega.{arith}
 use borrow.Author.Needs.{needs}
-use borrow.Author.Tests.{eqb-false}
+use borrow.Author.Tests.{eqb-false, eqb-true}
 use Rattle.moving.specs.Model.{carrying}
 use Rattle.moving.specs.Scan.{Looks, none, more}
 use Rattle.moving.proofs.Ways as ways
@@ -22,7 +23,8 @@ loop-left-holds g c =
       used = search needs;
       sound = c .pre .sound;
       below = λ k lt. absurd (omega arith);
-      is = record { answers = []; looks = none };
+      looks = record { answers = []; looks = none };
+      cost = omega arith;
       so = λ n has. ways.more (x .window .len) (omega arith) (subst (λ m. SoFar [] n w 0 [] m w) (sym (carry-self n x has)) (begin [] n w (c .pre .soon .up)));
     }
 
@@ -67,13 +69,16 @@ loop-left-again g c =
     let i = c .loop-left .inv in
     let l = c .in-Continue-k .ensures tt in
     let one = l .one .2 in
+    let step = l .is .cursor in
+    let was = i .cost in
     record {
       pages = i .pages ∙ sym (l .used .pages);
       few = search needs;
       used = search needs;
       sound = l .sound .0;
       below = l .sound .1;
-      is = record { answers = _; looks = more _ _ _ _ (i .is .looks) (l .is) };
+      looks = record { answers = _; looks = more _ _ _ _ (i .looks .looks) (l .is) };
+      cost = omega arith;
       so = λ n has.
           ways.more (y .window .len) (omega arith)
           (subst (λ m. SoFar [] n w (x .window .len + c .in-Continue-k .k) [] m (g .P·Place .world (c .look .last .w))) (carry-twice n x y)
@@ -81,10 +86,19 @@ loop-left-again g c =
     }
 
 pub returns-else-self-pages : need.returns-else-self-pages
-returns-else-self-pages g c = let s = c .loop-left .inv .sound .room in record { used = search needs; is = c .loop-left .inv .is; sound = c .loop-left .inv .sound; keeps = λ n has. ends-ok 62 (omega arith) (c .loop-left .inv .so n has) }
+returns-else-self-pages g c =
+    let s = c .loop-left .inv .sound .room in
+    let paid = c .loop-left .inv .cost in
+    record { used = search needs; is = record { answers = c .loop-left .inv .looks .answers; looks = c .loop-left .inv .looks .looks; cost = omega arith; ends = inr (inr (search needs)) }; sound = c .loop-left .inv .sound; keeps = λ n has. ends-ok 62 (omega arith) (c .loop-left .inv .so n has) }
 
 pub returns-else-not-is-full : need.returns-else-not-is-full
-returns-else-not-is-full g c = let s = c .loop-left .inv .sound .room in record { used = search needs; is = c .loop-left .inv .is; sound = c .loop-left .inv .sound; keeps = λ n has. ends-ok 62 (omega arith) (c .loop-left .inv .so n has) }
+returns-else-not-is-full g c =
+    let s = c .loop-left .inv .sound .room in
+    let paid = c .loop-left .inv .cost in
+    record { used = search needs; is = record { answers = c .loop-left .inv .looks .answers; looks = c .loop-left .inv .looks .looks; cost = omega arith; ends = inr (inl (eqb-true (c .loop-left .self .window .len) 62 (sym (c .is-full .ensures) ∙ c .if-not-is-full .left))) }; sound = c .loop-left .inv .sound; keeps = λ n has. ends-ok 62 (omega arith) (c .loop-left .inv .so n has) }
 
 pub returns-after-loop-left : need.returns-after-loop-left
-returns-after-loop-left g c = let s = c .loop-left .inv .sound .room in record { used = search needs; is = c .loop-left .inv .is; sound = c .loop-left .inv .sound; keeps = λ n has. ends-ok 62 (omega arith) (c .loop-left .inv .so n has) }
+returns-after-loop-left g c =
+    let s = c .loop-left .inv .sound .room in
+    let paid = c .loop-left .inv .cost in
+    record { used = search needs; is = record { answers = c .loop-left .inv .looks .answers; looks = c .loop-left .inv .looks .looks; cost = omega arith; ends = inl (omega arith) }; sound = c .loop-left .inv .sound; keeps = λ n has. ends-ok 62 (omega arith) (c .loop-left .inv .so n has) }
