@@ -1,5 +1,5 @@
 #!/usr/bin/env bash
-# Plays random scripts with target/bin/cellar and with bench/plain, which was written from the documents and tests each
+# Plays random scripts with target/bin/cellar and with bench/plain, which was written apart from it and tests each
 # stop, resume and put by itself. Both must print the same lines. Prints how many of each kind there were.
 #
 #     bench/compare.sh [PLAYS [SEED]]      2000 plays and seed 1, if not said otherwise

@@ -1,4 +1,4 @@
-//! The same play as `cellar`, in plain Rust, written from docs/DESIGN.md and docs/SCRIPT.md: two hosts in memory, a plan
+//! The same play as `cellar`, in plain Rust, as docs/DESIGN.md and docs/SCRIPT.md have it: two hosts in memory, a plan
 //! with its generator, a log, and the nodes that move the guest. It reads the same script and prints the same lines.
 //! Beside that it looks on by itself: each `stop`, `resume` and `put` is tested against what is promised, and a broken
 //! promise ends the program.
