@@ -5,23 +5,9 @@
 #     bench/compare.sh [PLAYS [SEED]]      2000 plays and seed 1, if not said otherwise
 #
 # CELLAR names another program in place of target/bin/cellar. Needs rustc.
-set -euo pipefail
-export LC_ALL=C
-
-root=$(cd -P "$(dirname "${BASH_SOURCE[0]}")/.." && pwd)
+source "$(dirname "${BASH_SOURCE[0]}")/both.sh"
 plays=${1:-2000}
 seed=${2:-1}
-cellar=${CELLAR:-$root/target/bin/cellar}
-
-if [[ ! -x $cellar ]]; then
-    echo "compare: no $cellar; 'rt check cellar' builds it" >&2
-    exit 1
-fi
-
-work=$(mktemp -d)
-trap 'rm -rf "$work"' EXIT
-
-rustc -O --edition 2021 -o "$work/plain" "$root/bench/plain/main.rs"
 
 awk -v plays="$plays" -v seed="$seed" '
     function below(n) { return int(rand() * n) }
@@ -45,12 +31,6 @@ awk -v plays="$plays" -v seed="$seed" '
         }
     }' >"$work/script"
 
-"$cellar" <"$work/script" >"$work/cellar.out"
-"$work/plain" <"$work/script" >"$work/plain.out"
-if ! cmp -s "$work/cellar.out" "$work/plain.out"; then
-    echo "compare: the two programs print different lines:" >&2
-    diff "$work/cellar.out" "$work/plain.out" | head -n 6 >&2
-    exit 1
-fi
+play_both
 echo "$plays plays, seed $seed: the same lines"
 cut -d ' ' -f 1 "$work/cellar.out" | sort | uniq -c

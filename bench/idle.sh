@@ -5,24 +5,10 @@
 #     bench/idle.sh [PLAYS [RUNS]]      3000 plays and 5 runs, if not said otherwise
 #
 # CELLAR names another program in place of target/bin/cellar. Needs rustc.
-set -euo pipefail
-export LC_ALL=C
-
-root=$(cd -P "$(dirname "${BASH_SOURCE[0]}")/.." && pwd)
+source "$(dirname "${BASH_SOURCE[0]}")/both.sh"
 plays=${1:-3000}
 runs=${2:-5}
 rounds=600
-cellar=${CELLAR:-$root/target/bin/cellar}
-
-if [[ ! -x $cellar ]]; then
-    echo "bench: no $cellar; 'rt check cellar' builds it" >&2
-    exit 1
-fi
-
-work=$(mktemp -d)
-trap 'rm -rf "$work"' EXIT
-
-rustc -O --edition 2021 -o "$work/plain" "$root/bench/plain/main.rs"
 
 pin=()
 if command -v taskset >/dev/null; then
@@ -35,14 +21,7 @@ for ((i = 0; i < plays; i++)); do
     printf 'anew\nround %d\n' "$rounds"
 done >"$work/script"
 
-# Both must print the same: nothing.
-"$cellar" <"$work/script" >"$work/cellar.out"
-"$work/plain" <"$work/script" >"$work/plain.out"
-if ! cmp -s "$work/cellar.out" "$work/plain.out"; then
-    echo "bench: the two programs print different lines:" >&2
-    diff "$work/cellar.out" "$work/plain.out" | head -n 6 >&2
-    exit 1
-fi
+play_both # both print nothing
 
 # The least wall clock time of all runs, in microseconds.
 least() { # PROGRAM
