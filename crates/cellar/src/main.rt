@@ -1,4 +1,6 @@
 // Plays a script, read from standard input, on two hosts in memory with 32 pages.
+#![tactic(auto)]
+
 ghost use Rattle.std.specs.Prelude.{◌≡◌, ℕ, ◌<◌, ◌≤◌, true, false, length};
 ghost use Rattle.moving.specs.Hosts.{AtStart};
 ghost use Rattle.hosts.specs.Follows.{world_of};

@@ -1,4 +1,6 @@
 // Two hosts in memory, their guest and the line between them, which do what they are asked for, and beside that what a plan says.
+#![tactic(auto)]
+
 ghost use Rattle.std.specs.Prelude.{◌≡◌, ℕ, ◌<◌, ◌≤◌, Bool, true, false, cond, not, ◌&&◌, T, length, is_ok, Some, None, Ok, Err, MatchResult, nat_lt};
 ghost use Rattle.moving.specs.Hosts.{World, Does, Posts, Gets, Between, AtStart, InTime, Sends, me, kept, heard, put_page, untouched, stopped, resumed, counted, seated, renewed, rounded};
 ghost use Rattle.plan.specs.declared.Plan.{Plan};

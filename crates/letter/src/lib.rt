@@ -1,4 +1,6 @@
 // Letters between two hosts: 72 words each. Nothing is lost or added on the way into words and back.
+#![tactic(auto)]
+
 ghost use Rattle.std.specs.Prelude.{◌≡◌, ℕ, length};
 ghost use Rattle.letter.specs.Words.{number, kind_of, letter_of, spelt};
 ghost use Rattle.letter.specs.Laws.{ReadsWhatWasWritten, WritesWhatWasRead};

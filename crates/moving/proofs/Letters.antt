@@ -3,7 +3,7 @@
 use Rattle.std.proofs.Common.{◌≡◌, ℕ, ◌+◌, ◌-◌, ◌%◌, ◌<◌, ◌≤◌, Bool, true, false, cond, not, ◌&&◌, ◌||◌, T, eqb, ltb, ◌⊎◌, List, [], ◌∷◌, ◌++◌, length, get_or, drop, Some, None, Option, sym, refl, ap, ◌∙◌, subst, ap₂, inl, inr, arith, eq-eqb, eqb-true}
 use mathlib.Core.Path.{subst⁻¹}
 use mathlib.Core.List.{Memᴰ}
-use borrow.Author.Tests.{both_ways, not_true, not_false, eqb-false}
+use borrow.Author.Tests.{both_ways, not-true, not-false, eqb-false}
 use Rattle.moving.specs.declared.Node.{Node}
 use Rattle.moving.specs.declared.state.Transfer.{Transfer}
 use Rattle.moving.specs.declared.state.Receiving.{Receiving as Reception}
@@ -34,15 +34,14 @@ more_both le h = record { ours = more_side le h.ours; yours = more_side le h.you
 abbrev pub link : List (List ℕ) → List (List ℕ) → Host → Host
 link r s h = host_of h.page h.touched h.cell h.told r s
 
-pub took : {m : ℕ} {x y : List (List ℕ)} {n o : Node} {u : View} (z r s : List (List ℕ)) → length r ≤ length u.mine.row → ((l : List ℕ) → In l z (link r s u.mine) → In l x u.mine) → Both m x y n o u → Both m z y n o (on_mine (link r s u.mine) u)
-took z r s fewer f h =
-    let most = h.ours.fit.row in
-    record { ours = record { me = h.ours.me; fit = record { sides = h.ours.fit.sides; some = h.ours.fit.some; few = h.ours.fit.few; lost = h.ours.fit.lost; row = omega arith }; guest = h.ours.guest; cells = h.ours.cells; order = h.ours.order; commits = h.ours.commits; copy = h.ours.copy; letters = λ l i. h.ours.letters l (f l i) }; yours = record { me = h.yours.me; fit = h.yours.fit; guest = h.yours.guest; cells = h.yours.cells; order = h.yours.order; commits = h.yours.commits; copy = h.yours.copy; letters = h.yours.letters } }
+pub took : {m : ℕ} {x y : List (List ℕ)} {n o : Node} {u : View} (z r s : List (List ℕ)) → ((l : List ℕ) → In l z (link r s u.mine) → In l x u.mine) → Both m x y n o u → Both m z y n o (on_mine (link r s u.mine) u)
+took z r s f h =
+    record { ours = record { me = h.ours.me; fit = h.ours.fit; guest = h.ours.guest; cells = h.ours.cells; order = h.ours.order; commits = h.ours.commits; copy = h.ours.copy; letters = λ l i. h.ours.letters l (f l i) }; yours = record { me = h.yours.me; fit = h.yours.fit; guest = h.yours.guest; cells = h.yours.cells; order = h.yours.order; commits = h.yours.commits; copy = h.yours.copy; letters = h.yours.letters } }
 
 -- SENT: what is in the other's box was in it, or is the letter
-pub sent : {m : ℕ} {x y : List (List ℕ)} {n o : Node} {u : View} (l : List ℕ) (r s : List (List ℕ)) → length r ≤ 64 → ((k : List ℕ) → In k y (link r s u.theirs) → In k y u.theirs ⊎ (k ≡ l)) → Legit m l o n (flip u) → Both m x y n o u → Both m x y n o (on_theirs (link r s u.theirs) u)
-sent {m = m} {n = n} {o = o} {u = u} l r s most f g h =
-    record { ours = record { me = h.ours.me; fit = h.ours.fit; guest = h.ours.guest; cells = h.ours.cells; order = h.ours.order; commits = h.ours.commits; copy = h.ours.copy; letters = h.ours.letters }; yours = record { me = h.yours.me; fit = record { sides = h.yours.fit.sides; some = h.yours.fit.some; few = h.yours.fit.few; lost = h.yours.fit.lost; row = most }; guest = h.yours.guest; cells = h.yours.cells; order = h.yours.order; commits = h.yours.commits; copy = h.yours.copy; letters = λ k i. elim (f k i) [ inl j ↦ h.yours.letters k j | inr q ↦ subst (λ k. Legit m k o n (flip u)) (sym q) g ] } }
+pub sent : {m : ℕ} {x y : List (List ℕ)} {n o : Node} {u : View} (l : List ℕ) (r s : List (List ℕ)) → ((k : List ℕ) → In k y (link r s u.theirs) → In k y u.theirs ⊎ (k ≡ l)) → Legit m l o n (flip u) → Both m x y n o u → Both m x y n o (on_theirs (link r s u.theirs) u)
+sent {m = m} {n = n} {o = o} {u = u} l r s f g h =
+    record { ours = record { me = h.ours.me; fit = h.ours.fit; guest = h.ours.guest; cells = h.ours.cells; order = h.ours.order; commits = h.ours.commits; copy = h.ours.copy; letters = h.ours.letters }; yours = record { me = h.yours.me; fit = h.yours.fit; guest = h.yours.guest; cells = h.yours.cells; order = h.yours.order; commits = h.yours.commits; copy = h.yours.copy; letters = λ k i. elim (f k i) [ inl j ↦ h.yours.letters k j | inr q ↦ subst (λ k. Legit m k o n (flip u)) (sym q) g ] } }
 
 -- WHICH LETTERS MAY BE SENT
 kinds : {A : Type 0} {k : ℕ} (i j : ℕ) → k ≡ i → (i ≡ j → ⊥) → k ≡ j → A

@@ -3,7 +3,7 @@
 use Rattle.std.proofs.Common.{◌≡◌, ℕ, ◌+◌, ◌-◌, ◌%◌, ◌<◌, ◌≤◌, Bool, true, false, cond, not, ◌&&◌, ◌||◌, T, eqb, ltb, ◌⊎◌, List, [], ◌∷◌, ◌++◌, length, get_or, drop, Some, None, Option, sym, refl, ap, ◌∙◌, subst, ap₂, inl, inr, arith, eq-eqb, eqb-true}
 use mathlib.Core.Path.{subst⁻¹}
 use mathlib.Core.List.{Memᴰ}
-use borrow.Author.Tests.{both_ways, not_true, not_false, eqb-false}
+use borrow.Author.Tests.{both_ways, not-true, not-false, eqb-false}
 use Rattle.moving.specs.declared.Node.{Node}
 use Rattle.moving.specs.declared.state.Transfer.{Transfer}
 use Rattle.moving.specs.declared.state.Receiving.{Receiving as Reception}
@@ -139,14 +139,14 @@ in-hand h (inr i) = inr i
 
 pub fell : {m : ℕ} {x y : List (List ℕ)} {n o : Node} {u : View} (page : ℕ → List ℕ) (touched : ℕ → Bool) → Both m x y n o u → Both m [] y (fresh u.me false) o (fallen page touched u)
 fell {m = m} {x = x} {n = n} {o = o} {u = u} page touched h =
-    record { ours = record { me = refl; fit = record { sides = h.ours.fit.sides; some = h.ours.fit.some; few = h.ours.fit.few; row = h.ours.fit.row; lost = still_lost u.runs u.here u.lost h.ours.fit.lost }; guest = record { told = λ e. no e refl; runner = λ e f. no f (and_not u.runs u.here e); keeper = λ _ _ e f. no f (or_right u.hurt u.here e); running = λ x f. clash f tt; copying = λ x f. clash f tt; paused = λ x f. clash f tt; committed = λ x f. clash f tt; receiving = λ x f. clash f tt }; cells = record { copies = λ e. no e refl; asleep = λ _. refl; took = h.ours.cells.took; done = h.ours.cells.done; parity = h.ours.cells.parity; most = h.ours.cells.most; committed = λ x f. clash f tt; receiving = λ x f. clash f tt }; order = h.ours.order; commits = λ r f a b. let g : Given u = h.ours.commits r f a b in record { runs = ap (λ z. z && not u.here) g.runs; lost = ap₂ (λ l z. l || (z && u.here)) g.lost g.runs; here = g.here; wish = g.wish; same = g.same }; copy = record { carries = λ c f. none_some f; below = λ x f. clash f tt }; letters = λ l i. mine l (h.ours.letters l (in-hand u.mine i)) }; yours = record { me = h.yours.me; fit = record { sides = h.yours.fit.sides; some = h.yours.fit.some; few = h.yours.fit.few; row = h.yours.fit.row; lost = still_lost u.runs u.here u.lost h.ours.fit.lost }; guest = record { told = λ e. let z = a.told e in (ap₂ (λ r b. r && b) z.0 z.1, z.1, z.2); runner = λ e f. a.runner (and_left u.runs _ e) f; keeper = λ r l b f. a.keeper (and_un u.runs _ r f) (or_left u.lost _ l) (or_left u.hurt _ b) f; running = λ x f. let z = a.running x f in record { runs = ap₂ (λ r b. r && b) z.runs z.here; here = z.here; wanted = z.wanted; idle = z.idle }; copying = λ c f. let z = a.copying c f in record { runs = ap₂ (λ r b. r && b) z.runs z.here; here = z.here; wish = z.wish; told = z.told }; paused = λ x f. stands (a.paused x f); committed = λ x f k l. stands (a.committed x f k l); receiving = a.receiving }; cells = h.yours.cells; order = h.yours.order; commits = λ r f. clash f tt; copy = record { carries = λ c f. let k = h.yours.copy.carries c f in record { attempt = k.attempt; own = k.own; done = k.done; took = k.took; most = k.most; ways = k.ways; base = k.base; every = k.every; under = λ s g. clash g tt }; below = h.yours.copy.below }; letters = λ l i. theirs l (h.yours.letters l i) } }
+    record { ours = record { me = refl; fit = record { sides = h.ours.fit.sides; some = h.ours.fit.some; few = h.ours.fit.few; lost = still_lost u.runs u.here u.lost h.ours.fit.lost }; guest = record { told = λ e. no e refl; runner = λ e f. no f (and_not u.runs u.here e); keeper = λ _ _ e f. no f (or_right u.hurt u.here e); running = λ x f. clash f tt; copying = λ x f. clash f tt; paused = λ x f. clash f tt; committed = λ x f. clash f tt; receiving = λ x f. clash f tt }; cells = record { copies = λ e. no e refl; asleep = λ _. refl; took = h.ours.cells.took; done = h.ours.cells.done; parity = h.ours.cells.parity; most = h.ours.cells.most; committed = λ x f. clash f tt; receiving = λ x f. clash f tt }; order = h.ours.order; commits = λ r f a b. let g : Given u = h.ours.commits r f a b in record { runs = ap (λ z. z && not u.here) g.runs; lost = ap₂ (λ l z. l || (z && u.here)) g.lost g.runs; here = g.here; wish = g.wish; same = g.same }; copy = record { carries = λ c f. none_some f; below = λ x f. clash f tt }; letters = λ l i. mine l (h.ours.letters l (in-hand u.mine i)) }; yours = record { me = h.yours.me; fit = record { sides = h.yours.fit.sides; some = h.yours.fit.some; few = h.yours.fit.few; lost = still_lost u.runs u.here u.lost h.ours.fit.lost }; guest = record { told = λ e. let z = a.told e in (ap₂ (λ r b. r && b) z.0 z.1, z.1, z.2); runner = λ e f. a.runner (and_left u.runs _ e) f; keeper = λ r l b f. a.keeper (and_un u.runs _ r f) (or_left u.lost _ l) (or_left u.hurt _ b) f; running = λ x f. let z = a.running x f in record { runs = ap₂ (λ r b. r && b) z.runs z.here; here = z.here; wanted = z.wanted; idle = z.idle }; copying = λ c f. let z = a.copying c f in record { runs = ap₂ (λ r b. r && b) z.runs z.here; here = z.here; wish = z.wish; told = z.told }; paused = λ x f. stands (a.paused x f); committed = λ x f k l. stands (a.committed x f k l); receiving = a.receiving }; cells = h.yours.cells; order = h.yours.order; commits = λ r f. clash f tt; copy = record { carries = λ c f. let k = h.yours.copy.carries c f in record { attempt = k.attempt; own = k.own; done = k.done; took = k.took; most = k.most; ways = k.ways; base = k.base; every = k.every; under = λ s g. clash g tt }; below = h.yours.copy.below }; letters = λ l i. theirs l (h.yours.letters l i) } }
   where
     a : Guest o (flip u)
     a = h.yours.guest
 
     stands : Stands (flip u) → Stands (flip (fallen page touched u))
     stands z =
-        let away : u.here ≡ false = not_true u.here z.here in
+        let away : u.here ≡ false = not-true u.here z.here in
         record { runs = ap (λ r. r && not u.here) z.runs; lost = ap₂ (λ l r. l || (r && u.here)) z.lost z.runs; hurt = ap₂ (λ l r. l || r) z.hurt away; here = z.here; wish = z.wish; told = z.told; same = z.same }
 
     mine : (l : List ℕ) → Legit m l n o u → Legit m l (fresh u.me false) o (fallen page touched u)
@@ -275,7 +275,7 @@ may_take l r i kd e at h = let g = (given_here l r i kd e at h).given in (g.runs
 
 pub take_it : {m : ℕ} {x y : List (List ℕ)} {n o : Node} {u : View} (l : List ℕ) (r : Reception) → In l x u.mine → kind_of l ≡ 3 → n.state ≡ Receiving r → attempt_of l ≡ r.attempt → Both m x y n o u → Both m x y (runs_again r.attempt false n) o (went r.attempt u)
 take_it {m = m} {x = x} {n = n} {o = o} {u = u} l r i kd e at h =
-    record { ours = record { me = h.ours.me; fit = record { sides = h.ours.fit.sides; some = h.ours.fit.some; few = h.ours.fit.few; row = h.ours.fit.row; lost = λ _. g.lost }; guest = record { told = λ a. no (h.ours.guest.told a).0 g.runs; runner = λ _ _. refl; keeper = λ a. no refl a; running = λ y f. subst (λ y. Runs y.wanted (went r.attempt u)) (running_same f) (record { runs = refl; here = refl; wanted = λ z. no z refl; idle = λ _ z. no z gone }); copying = λ x f. clash f tt; paused = λ x f. clash f tt; committed = λ x f. clash f tt; receiving = λ x f. clash f tt }; cells = record { copies = λ a. let w = h.ours.cells.copies a in (refl, w.1, w.2); asleep = λ a. clash (sym (h.ours.cells.asleep a) ∙ e) tt; took = omega arith; done = h.ours.cells.done; parity = h.ours.cells.parity; most = h.ours.cells.most; committed = λ x f. clash f tt; receiving = λ x f. clash f tt }; order = record { later = λ _. omega (arith, top, v.top); had = λ _ _ _. omega (arith, top, v.top); begun = h.ours.order.begun; untaken = λ _ _ w. odd w }; commits = λ s f a b. odd b; copy = record { carries = λ c f. none_some f; below = λ x f. clash f tt }; letters = λ l i. mine l (h.ours.letters l i) }; yours = record { me = h.yours.me; fit = record { sides = h.yours.fit.sides; some = h.yours.fit.some; few = h.yours.fit.few; row = h.yours.fit.row; lost = λ _. g.lost }; guest = record { told = λ a. no (h.yours.guest.told a).0 g.runs; runner = λ _ b. no b refl; keeper = λ a. no refl a; running = λ y f. no (h.yours.guest.running y f).runs g.runs; copying = λ y f. no (h.yours.guest.copying y f).runs g.runs; paused = λ y f. idle y.transfer (ap moving f); committed = λ y f a b. no b refl; receiving = λ s f. refl }; cells = h.yours.cells; order = record { later = λ b. no b refl; had = λ b. no b refl; begun = h.yours.order.begun; untaken = λ b. no b refl }; commits = λ s f. clash f tt; copy = record { carries = λ c f. idle c f; below = h.yours.copy.below }; letters = λ l i. theirs l (h.yours.letters l i) } }
+    record { ours = record { me = h.ours.me; fit = record { sides = h.ours.fit.sides; some = h.ours.fit.some; few = h.ours.fit.few; lost = λ _. g.lost }; guest = record { told = λ a. no (h.ours.guest.told a).0 g.runs; runner = λ _ _. refl; keeper = λ a. no refl a; running = λ y f. subst (λ y. Runs y.wanted (went r.attempt u)) (running_same f) (record { runs = refl; here = refl; wanted = λ z. no z refl; idle = λ _ z. no z gone }); copying = λ x f. clash f tt; paused = λ x f. clash f tt; committed = λ x f. clash f tt; receiving = λ x f. clash f tt }; cells = record { copies = λ a. let w = h.ours.cells.copies a in (refl, w.1, w.2); asleep = λ a. clash (sym (h.ours.cells.asleep a) ∙ e) tt; took = omega arith; done = h.ours.cells.done; parity = h.ours.cells.parity; most = h.ours.cells.most; committed = λ x f. clash f tt; receiving = λ x f. clash f tt }; order = record { later = λ _. omega (arith, top, v.top); had = λ _ _ _. omega (arith, top, v.top); begun = h.ours.order.begun; untaken = λ _ _ w. odd w }; commits = λ s f a b. odd b; copy = record { carries = λ c f. none_some f; below = λ x f. clash f tt }; letters = λ l i. mine l (h.ours.letters l i) }; yours = record { me = h.yours.me; fit = record { sides = h.yours.fit.sides; some = h.yours.fit.some; few = h.yours.fit.few; lost = λ _. g.lost }; guest = record { told = λ a. no (h.yours.guest.told a).0 g.runs; runner = λ _ b. no b refl; keeper = λ a. no refl a; running = λ y f. no (h.yours.guest.running y f).runs g.runs; copying = λ y f. no (h.yours.guest.copying y f).runs g.runs; paused = λ y f. idle y.transfer (ap moving f); committed = λ y f a b. no b refl; receiving = λ s f. refl }; cells = h.yours.cells; order = record { later = λ b. no b refl; had = λ b. no b refl; begun = h.yours.order.begun; untaken = λ b. no b refl }; commits = λ s f. clash f tt; copy = record { carries = λ c f. idle c f; below = h.yours.copy.below }; letters = λ l i. theirs l (h.yours.letters l i) } }
   where
     v : record { given : Given (flip u); top : r.attempt ≡ u.theirs.cell 1; done : u.theirs.cell 2 ≡ u.theirs.cell 1; some : 1 ≤ r.attempt }
     v = given_here l r i kd e at h
@@ -284,7 +284,7 @@ take_it {m = m} {x = x} {n = n} {o = o} {u = u} l r i kd e at h =
     g = v.given
 
     away : u.here ≡ false
-    away = not_true u.here g.here
+    away = not-true u.here g.here
 
     gone : (u.wish && u.here) ≡ false
     gone = ap₂ (λ a b. a && b) g.wish away
@@ -318,7 +318,7 @@ take_it {m = m} {x = x} {n = n} {o = o} {u = u} l r i kd e at h =
 -- it stood here and goes on here: after Refuse
 pub go_on : {m : ℕ} {x y : List (List ℕ)} {n o : Node} {u : View} (t : ℕ) → n.awake ≡ true → t ≡ u.mine.cell 1 → Stands u → ((r : Reception) → o.state ≡ Receiving r → r.attempt ≡ u.mine.cell 1 → u.mine.cell 2 ≡ u.mine.cell 1 → ⊥) → Both m x y n o u → Both m x y (runs_again t true n) o (went t u)
 go_on {m = m} {x = x} {n = n} {o = o} {u = u} t aw top st ne h =
-    record { ours = record { me = h.ours.me; fit = record { sides = h.ours.fit.sides; some = h.ours.fit.some; few = h.ours.fit.few; row = h.ours.fit.row; lost = λ _. st.lost }; guest = record { told = λ a. no a st.told; runner = λ _ _. refl; keeper = λ a. no refl a; running = λ y f. subst (λ y. Runs y.wanted (went t u)) (running_same f) (record { runs = refl; here = refl; wanted = λ _. (ap₂ (λ a b. a && b) st.wish st.here, st.told); idle = λ z. no refl z }); copying = λ x f. clash f tt; paused = λ x f. clash f tt; committed = λ x f. clash f tt; receiving = λ x f. clash f tt }; cells = record { copies = λ a. let w = h.ours.cells.copies a in (refl, w.1, w.2); asleep = λ a. no aw a; took = omega arith; done = h.ours.cells.done; parity = h.ours.cells.parity; most = h.ours.cells.most; committed = λ x f. clash f tt; receiving = λ x f. clash f tt }; order = record { later = λ _. h.ours.order.later st.here; had = λ _ _ _. let w = h.ours.order.later st.here in omega arith; begun = h.ours.order.begun; untaken = λ _. h.ours.order.untaken st.here }; commits = λ r f a b. absurd (ne r f a b); copy = record { carries = λ c f. none_some f; below = λ x f. clash f tt }; letters = λ l i. mine l (h.ours.letters l i) }; yours = record { me = h.yours.me; fit = record { sides = h.yours.fit.sides; some = h.yours.fit.some; few = h.yours.fit.few; row = h.yours.fit.row; lost = λ _. st.lost }; guest = record { told = λ a. no (h.yours.guest.told a).1 away; runner = λ _ b. no b refl; keeper = λ a. no refl a; running = λ y f. no (h.yours.guest.running y f).here away; copying = λ y f. no (h.yours.guest.copying y f).here away; paused = λ y f. no (h.yours.guest.paused y f).here away; committed = λ y f a b. no b refl; receiving = λ s f. refl }; cells = h.yours.cells; order = record { later = λ b. no b refl; had = λ b. no b refl; begun = h.yours.order.begun; untaken = λ b. no b refl }; commits = λ s f. clash f tt; copy = record { carries = λ c f. no (mover c h.yours f).0 away; below = h.yours.copy.below }; letters = λ l i. theirs l (h.yours.letters l i) } }
+    record { ours = record { me = h.ours.me; fit = record { sides = h.ours.fit.sides; some = h.ours.fit.some; few = h.ours.fit.few; lost = λ _. st.lost }; guest = record { told = λ a. no a st.told; runner = λ _ _. refl; keeper = λ a. no refl a; running = λ y f. subst (λ y. Runs y.wanted (went t u)) (running_same f) (record { runs = refl; here = refl; wanted = λ _. (ap₂ (λ a b. a && b) st.wish st.here, st.told); idle = λ z. no refl z }); copying = λ x f. clash f tt; paused = λ x f. clash f tt; committed = λ x f. clash f tt; receiving = λ x f. clash f tt }; cells = record { copies = λ a. let w = h.ours.cells.copies a in (refl, w.1, w.2); asleep = λ a. no aw a; took = omega arith; done = h.ours.cells.done; parity = h.ours.cells.parity; most = h.ours.cells.most; committed = λ x f. clash f tt; receiving = λ x f. clash f tt }; order = record { later = λ _. h.ours.order.later st.here; had = λ _ _ _. let w = h.ours.order.later st.here in omega arith; begun = h.ours.order.begun; untaken = λ _. h.ours.order.untaken st.here }; commits = λ r f a b. absurd (ne r f a b); copy = record { carries = λ c f. none_some f; below = λ x f. clash f tt }; letters = λ l i. mine l (h.ours.letters l i) }; yours = record { me = h.yours.me; fit = record { sides = h.yours.fit.sides; some = h.yours.fit.some; few = h.yours.fit.few; lost = λ _. st.lost }; guest = record { told = λ a. no (h.yours.guest.told a).1 away; runner = λ _ b. no b refl; keeper = λ a. no refl a; running = λ y f. no (h.yours.guest.running y f).here away; copying = λ y f. no (h.yours.guest.copying y f).here away; paused = λ y f. no (h.yours.guest.paused y f).here away; committed = λ y f a b. no b refl; receiving = λ s f. refl }; cells = h.yours.cells; order = record { later = λ b. no b refl; had = λ b. no b refl; begun = h.yours.order.begun; untaken = λ b. no b refl }; commits = λ s f. clash f tt; copy = record { carries = λ c f. no (mover c h.yours f).0 away; below = h.yours.copy.below }; letters = λ l i. theirs l (h.yours.letters l i) } }
   where
     away : not u.here ≡ false
     away = ap not st.here

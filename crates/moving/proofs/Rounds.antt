@@ -2,7 +2,7 @@
 -- Assumes nothing.
 use Rattle.std.proofs.Common.{◌≡◌, ℕ, ◌+◌, ◌-◌, ◌<◌, ◌≤◌, Bool, true, false, not, [], sym, refl, ap, ◌∙◌, subst, subst₂, arith}
 use mathlib.Core.Path.{subst⁻¹}
-use borrow.Author.Tests.{not_true}
+use borrow.Author.Tests.{not-true}
 use Rattle.moving.specs.declared.Node.{Node}
 use Rattle.moving.specs.Hosts.{World, seated, renewed, rounded}
 use Rattle.moving.specs.Model.{Rested}
@@ -27,7 +27,7 @@ begins {i = i} {m = m} {n = n} {o = o} w r e s h =
 -- and ends
 pub ended : {i m : ℕ} {n l o : Node} {w v : World} → true ≡ not w.fell → Rested n → Whole i m [] n o w → l ≡ n → v ≡ w → Stands i m l o v
 ended {i = i} {m = m} {o = o} {w = w} u s h p q =
-    subst₂ (λ a b. Stands i m a o b) (sym p) (sym q) (record { up = not_true w.fell (sym u); rested = s; whole = h })
+    subst₂ (λ a b. Stands i m a o b) (sym p) (sym q) (record { up = not-true w.fell (sym u); rested = s; whole = h })
 
 pub fresh_rested : (i : ℕ) (b : Bool) → Rested (fresh i b)
 fresh_rested i true = record { windowed = tt; silent = refl }

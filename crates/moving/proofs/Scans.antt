@@ -3,7 +3,7 @@
 use Rattle.std.proofs.Common.{◌≡◌, ℕ, ◌+◌, ◌-◌, ◌%◌, ◌<◌, ◌≤◌, Bool, true, false, cond, not, ◌&&◌, ◌||◌, T, eqb, ltb, ◌⊎◌, List, [], ◌∷◌, ◌++◌, length, get_or, drop, Some, None, Option, sym, refl, ap, ◌∙◌, subst, ap₂, inl, inr, arith, ltb-false, ltb-true, eq-eqb, eqb-true}
 use mathlib.Core.Path.{subst⁻¹}
 use mathlib.Core.List.{Memᴰ}
-use borrow.Author.Tests.{both_ways, not_true, not_false, eqb-false}
+use borrow.Author.Tests.{both_ways, not-true, not-false, eqb-false}
 use Rattle.moving.specs.declared.Node.{Node}
 use Rattle.moving.specs.declared.state.Transfer.{Transfer}
 use Rattle.moving.specs.declared.state.Receiving.{Receiving as Reception}
@@ -221,7 +221,7 @@ stood u = on_guest false u.here u.lost u.mine.page false u.wish u
 
 pub stop_it : {m : ℕ} {x y : List (List ℕ)} {n o : Node} {u : View} (c : Transfer) (z : Pause) → n.state ≡ Copying c → z.transfer ≡ recount c 0 z.transfer.sent z.transfer.turns z.transfer.prev → Both m x y n o u → Both m x y (on_state (Paused z) n) o (stood u)
 stop_it {m = m} {n = n} {o = o} {u = u} c z e tr h =
-    record { ours = record { me = h.ours.me; fit = record { sides = h.ours.fit.sides; some = h.ours.fit.some; few = h.ours.fit.few; row = h.ours.fit.row; lost = λ a. no a refl }; guest = record { told = λ a. no a g.told; runner = λ a. no a refl; keeper = λ _ _ _ _. refl; running = λ x f. clash f tt; copying = λ x f. clash f tt; paused = λ _ _. record { runs = refl; lost = h.ours.fit.lost g.runs; hurt = refl; here = g.here; wish = g.wish; told = g.told; same = λ _ _. refl }; committed = λ x f. clash f tt; receiving = λ x f. clash f tt }; cells = record { copies = h.ours.cells.copies; asleep = λ a. clash (sym (h.ours.cells.asleep a) ∙ e) tt; took = h.ours.cells.took; done = h.ours.cells.done; parity = h.ours.cells.parity; most = h.ours.cells.most; committed = λ x f. clash f tt; receiving = λ x f. clash f tt }; order = h.ours.order; commits = λ r f a b. let w = ca.done in let v = ca.attempt in absurd (omega arith); copy = record { carries = λ b f. subst (λ b. Carries m b o u) (sym tr ∙ some_same f) ca; below = λ x f p l. let q = ap (λ x. x.transfer.cursor) (paused_same f) in let v = ap (λ c. c.cursor) tr in absurd (omega arith) }; letters = λ l i. mine l (h.ours.letters l i) }; yours = record { me = h.yours.me; fit = record { sides = h.yours.fit.sides; some = h.yours.fit.some; few = h.yours.fit.few; row = h.yours.fit.row; lost = λ a. no a refl }; guest = record { told = λ a. no (h.yours.guest.told a).1 away; runner = λ a. no a refl; keeper = λ _ _ _ b. no b away; running = λ y f. no (h.yours.guest.running y f).here away; copying = λ y f. no (h.yours.guest.copying y f).here away; paused = λ y f. no (h.yours.guest.paused y f).here away; committed = λ y f a b. no b away; receiving = h.yours.guest.receiving }; cells = h.yours.cells; order = h.yours.order; commits = λ s f. clash f tt; copy = record { carries = λ b f. no (mover b h.yours f).0 away; below = h.yours.copy.below }; letters = λ l i. theirs l (h.yours.letters l i) } }
+    record { ours = record { me = h.ours.me; fit = record { sides = h.ours.fit.sides; some = h.ours.fit.some; few = h.ours.fit.few; lost = λ a. no a refl }; guest = record { told = λ a. no a g.told; runner = λ a. no a refl; keeper = λ _ _ _ _. refl; running = λ x f. clash f tt; copying = λ x f. clash f tt; paused = λ _ _. record { runs = refl; lost = h.ours.fit.lost g.runs; hurt = refl; here = g.here; wish = g.wish; told = g.told; same = λ _ _. refl }; committed = λ x f. clash f tt; receiving = λ x f. clash f tt }; cells = record { copies = h.ours.cells.copies; asleep = λ a. clash (sym (h.ours.cells.asleep a) ∙ e) tt; took = h.ours.cells.took; done = h.ours.cells.done; parity = h.ours.cells.parity; most = h.ours.cells.most; committed = λ x f. clash f tt; receiving = λ x f. clash f tt }; order = h.ours.order; commits = λ r f a b. let w = ca.done in let v = ca.attempt in absurd (omega arith); copy = record { carries = λ b f. subst (λ b. Carries m b o u) (sym tr ∙ some_same f) ca; below = λ x f p l. let q = ap (λ x. x.transfer.cursor) (paused_same f) in let v = ap (λ c. c.cursor) tr in absurd (omega arith) }; letters = λ l i. mine l (h.ours.letters l i) }; yours = record { me = h.yours.me; fit = record { sides = h.yours.fit.sides; some = h.yours.fit.some; few = h.yours.fit.few; lost = λ a. no a refl }; guest = record { told = λ a. no (h.yours.guest.told a).1 away; runner = λ a. no a refl; keeper = λ _ _ _ b. no b away; running = λ y f. no (h.yours.guest.running y f).here away; copying = λ y f. no (h.yours.guest.copying y f).here away; paused = λ y f. no (h.yours.guest.paused y f).here away; committed = λ y f a b. no b away; receiving = h.yours.guest.receiving }; cells = h.yours.cells; order = h.yours.order; commits = λ s f. clash f tt; copy = record { carries = λ b f. no (mover b h.yours f).0 away; below = h.yours.copy.below }; letters = λ l i. theirs l (h.yours.letters l i) } }
   where
     g : Copied u
     g = h.ours.guest.copying c e
@@ -246,7 +246,7 @@ stop_it {m = m} {n = n} {o = o} {u = u} c z e tr h =
 -- AGAIN: it goes on in the same attempt
 pub go_again : {m : ℕ} {x y : List (List ℕ)} {n o : Node} {u : View} (z : Pause) (k s t v : ℕ) → n.state ≡ Paused z → Both m x y n o u → Both m x y (record { me = n.me; awake = n.awake; took = z.transfer.attempt; top = n.top; committed = n.committed; asked = n.asked; state = Copying (recount z.transfer k s t v) }) o (went z.transfer.attempt u)
 go_again {m = m} {n = n} {o = o} {u = u} z kk s t v e h =
-    record { ours = record { me = h.ours.me; fit = record { sides = h.ours.fit.sides; some = h.ours.fit.some; few = h.ours.fit.few; row = h.ours.fit.row; lost = λ _. st.lost }; guest = record { told = λ a. no a st.told; runner = λ _ _. refl; keeper = λ a. no refl a; running = λ x f. clash f tt; copying = λ _ _. record { runs = refl; here = refl; wish = ap₂ (λ a b. a && b) st.wish st.here; told = st.told }; paused = λ x f. clash f tt; committed = λ x f. clash f tt; receiving = λ x f. clash f tt }; cells = record { copies = λ a. let w = h.ours.cells.copies a in (refl, w.1, w.2); asleep = λ a. clash (sym (h.ours.cells.asleep a) ∙ e) tt; took = omega (arith, ca.attempt); done = h.ours.cells.done; parity = h.ours.cells.parity; most = h.ours.cells.most; committed = λ x f. clash f tt; receiving = λ x f. clash f tt }; order = record { later = λ _. h.ours.order.later st.here; had = λ _ _ _. let w = h.ours.order.later st.here in omega (arith, ca.attempt); begun = h.ours.order.begun; untaken = λ _. h.ours.order.untaken st.here }; commits = λ r f a b. let w = ca.done in let v = ca.attempt in absurd (omega arith); copy = record { carries = λ b f. subst (λ b. Carries m b o (went z.transfer.attempt u)) (some_same f) ca; below = λ x f. clash f tt }; letters = λ l i. mine l (h.ours.letters l i) }; yours = record { me = h.yours.me; fit = record { sides = h.yours.fit.sides; some = h.yours.fit.some; few = h.yours.fit.few; row = h.yours.fit.row; lost = λ _. st.lost }; guest = record { told = λ a. no (h.yours.guest.told a).1 away; runner = λ _ b. no b refl; keeper = λ a. no refl a; running = λ y f. no (h.yours.guest.running y f).here away; copying = λ y f. no (h.yours.guest.copying y f).here away; paused = λ y f. no (h.yours.guest.paused y f).here away; committed = λ y f a b. no b refl; receiving = λ s f. refl }; cells = h.yours.cells; order = record { later = λ b. no b refl; had = λ b. no b refl; begun = h.yours.order.begun; untaken = λ b. no b refl }; commits = λ s f. clash f tt; copy = record { carries = λ c f. no (mover c h.yours f).0 away; below = h.yours.copy.below }; letters = λ l i. theirs l (h.yours.letters l i) } }
+    record { ours = record { me = h.ours.me; fit = record { sides = h.ours.fit.sides; some = h.ours.fit.some; few = h.ours.fit.few; lost = λ _. st.lost }; guest = record { told = λ a. no a st.told; runner = λ _ _. refl; keeper = λ a. no refl a; running = λ x f. clash f tt; copying = λ _ _. record { runs = refl; here = refl; wish = ap₂ (λ a b. a && b) st.wish st.here; told = st.told }; paused = λ x f. clash f tt; committed = λ x f. clash f tt; receiving = λ x f. clash f tt }; cells = record { copies = λ a. let w = h.ours.cells.copies a in (refl, w.1, w.2); asleep = λ a. clash (sym (h.ours.cells.asleep a) ∙ e) tt; took = omega (arith, ca.attempt); done = h.ours.cells.done; parity = h.ours.cells.parity; most = h.ours.cells.most; committed = λ x f. clash f tt; receiving = λ x f. clash f tt }; order = record { later = λ _. h.ours.order.later st.here; had = λ _ _ _. let w = h.ours.order.later st.here in omega (arith, ca.attempt); begun = h.ours.order.begun; untaken = λ _. h.ours.order.untaken st.here }; commits = λ r f a b. let w = ca.done in let v = ca.attempt in absurd (omega arith); copy = record { carries = λ b f. subst (λ b. Carries m b o (went z.transfer.attempt u)) (some_same f) ca; below = λ x f. clash f tt }; letters = λ l i. mine l (h.ours.letters l i) }; yours = record { me = h.yours.me; fit = record { sides = h.yours.fit.sides; some = h.yours.fit.some; few = h.yours.fit.few; lost = λ _. st.lost }; guest = record { told = λ a. no (h.yours.guest.told a).1 away; runner = λ _ b. no b refl; keeper = λ a. no refl a; running = λ y f. no (h.yours.guest.running y f).here away; copying = λ y f. no (h.yours.guest.copying y f).here away; paused = λ y f. no (h.yours.guest.paused y f).here away; committed = λ y f a b. no b refl; receiving = λ s f. refl }; cells = h.yours.cells; order = record { later = λ b. no b refl; had = λ b. no b refl; begun = h.yours.order.begun; untaken = λ b. no b refl }; commits = λ s f. clash f tt; copy = record { carries = λ c f. no (mover c h.yours f).0 away; below = h.yours.copy.below }; letters = λ l i. theirs l (h.yours.letters l i) } }
   where
     st : Stands u
     st = h.ours.guest.paused z e

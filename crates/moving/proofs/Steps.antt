@@ -1,11 +1,10 @@
 -- What is done keeps the world whole: one lemma for each kind of step.
 -- Assumes nothing.
-use Rattle.std.proofs.Common.{◌≡◌, ℕ, ◌+◌, ◌-◌, ◌%◌, ◌<◌, ◌≤◌, Bool, true, false, cond, not, ◌&&◌, ◌||◌, T, eqb, ltb, ◌⊎◌, List, [], ◌∷◌, ◌++◌, length, get_or, Some, None, Option, sym, refl, ap, ◌∙◌, subst, inl, inr, arith, length-append, eq-eqb, ne_eqb, eqb-true}
+use Rattle.std.proofs.Common.{◌≡◌, ℕ, ◌+◌, ◌-◌, ◌%◌, ◌<◌, ◌≤◌, Bool, true, false, cond, not, ◌&&◌, ◌||◌, T, eqb, ltb, ◌⊎◌, List, [], ◌∷◌, ◌++◌, length, get_or, Some, None, Option, sym, refl, ap, ◌∙◌, subst, inl, inr, arith, eq-eqb, ne_eqb, eqb-true}
 use mathlib.Core.Path.{subst⁻¹, subst₃}
 use mathlib.Core.List.Memᴰ
 use mathlib.Core.List.{Memᴰ}
 use borrow.Author.Tests.{both_ways}
-use Rattle.std.proofs.lemmas.Bool.{cases_lt, lt-ltb, le-ltb}
 use Rattle.moving.specs.declared.Node.{Node}
 use Rattle.moving.specs.declared.state.Transfer.{Transfer}
 use Rattle.moving.specs.declared.state.Receiving.{Receiving as Reception}
@@ -194,13 +193,8 @@ abbrev pub in_hand : Bool → List ℕ → List (List ℕ)
 in_hand true l = l ∷ []
 in_hand false l = []
 
-pub took_whole : {i m : ℕ} {x : List (List ℕ)} {n o : Node} {w : World} (z r s : List (List ℕ)) → length r ≤ length (me w).row → ((l : List ℕ) → In l z (link r s (me w)) → In l x (me w)) → Whole i m x n o w → Whole i m z n o (with_link w.turn r s w)
-took_whole {w = w} z r s e f h = own_whole (link r s (me w)) h (took z r s e f h.both)
-
-rest_fewer : (rs : List (List ℕ)) → length (rest' rs) ≤ length rs
-unfolding rest'
-rest_fewer [] = omega arith
-rest_fewer (y ∷ ys) = omega arith
+pub took_whole : {i m : ℕ} {x : List (List ℕ)} {n o : Node} {w : World} (z r s : List (List ℕ)) → ((l : List ℕ) → In l z (link r s (me w)) → In l x (me w)) → Whole i m x n o w → Whole i m z n o (with_link w.turn r s w)
+took_whole {w = w} z r s f h = own_whole (link r s (me w)) h (took z r s f h.both)
 
 first : (old rs : List (List ℕ)) (b : Bool) (l : List ℕ) → head_is rs b l → (k : List ℕ) → Memᴰ k (in_hand b l) ⊎ (Memᴰ k (rest' rs) ⊎ Memᴰ k old) → Memᴰ k [] ⊎ (Memᴰ k rs ⊎ Memᴰ k old)
 unfolding head_is rest'
@@ -212,13 +206,13 @@ first old (y ∷ ys) b l e k (inr (inr i)) = inr (inr i)
 
 -- a letter that was handed over is in hand
 pub gives_whole : {i m : ℕ} {n o : Node} {w d : World} {b : Bool} {l : List ℕ} → Gives w b l d → Whole i m [] n o w → Whole i m (in_hand b l) n o d
-gives_whole {w = w} (next b l e) h = took_whole (in_hand b l) (rest' (me w).row) (me w).old (rest_fewer (me w).row) (first (me w).old (me w).row b l e) h
-gives_whole {w = w} (again l e) h = rough_whole {w = w} (record { turn = h.turn; small = h.small; last = h.last; both = took (l ∷ []) (me w).row (me w).old (omega arith) (λ k i. among k i) h.both })
+gives_whole {w = w} (next b l e) h = took_whole (in_hand b l) (rest' (me w).row) (me w).old (first (me w).old (me w).row b l e) h
+gives_whole {w = w} (again l e) h = rough_whole {w = w} (record { turn = h.turn; small = h.small; last = h.last; both = took (l ∷ []) (me w).row (me w).old (λ k i. among k i) h.both })
   where
     among : (k : List ℕ) → In k (l ∷ []) (me w) → In k [] (me w)
     among k (inl i) = inr (inr (subst⁻¹ (λ z. Memᴰ z (me w).old) (Memᴰ.eq_of_singleton i) e))
     among k (inr i) = inr i
-gives_whole {w = w} (nothing l r a s) h = rough_whole (took_whole [] r (me w).old s (λ k i. among k i) h)
+gives_whole {w = w} (nothing l r a s) h = rough_whole (took_whole [] r (me w).old (λ k i. among k i) h)
   where
     among : (k : List ℕ) → In k [] (link r (me w).old (me w)) → In k [] (me w)
     among k (inl i) = inl i
@@ -226,7 +220,7 @@ gives_whole {w = w} (nothing l r a s) h = rough_whole (took_whole [] r (me w).ol
     among k (inr (inr i)) = inr (inr i)
 
 pub read_whole : {i m : ℕ} {x : List (List ℕ)} {n o : Node} {w : World} → Whole i m x n o w → Whole i m [] n o w
-read_whole {w = w} h = record { turn = h.turn; small = h.small; last = h.last; both = took [] (me w).row (me w).old (omega arith) (λ k i. among k i) h.both }
+read_whole {w = w} h = record { turn = h.turn; small = h.small; last = h.last; both = took [] (me w).row (me w).old (λ k i. among k i) h.both }
   where
     among : {x : List (List ℕ)} (k : List ℕ) → In k [] (me w) → In k x (me w)
     among k (inl i) = elim i [ ]
@@ -237,9 +231,9 @@ gives_fell (next b l e) = refl
 gives_fell (again l m) = refl
 gives_fell (nothing l r a s) = refl
 
-pub sent_whole : {i m : ℕ} {x : List (List ℕ)} {n o : Node} {w : World} (l : List ℕ) (r s : List (List ℕ)) → length r ≤ 64 → ((k : List ℕ) → In k [] (link r s (w.host (other w))) → In k [] (w.host (other w)) ⊎ (k ≡ l)) → Legit m l o n (flip (seen w)) → Whole i m x n o w → Whole i m x n o (with_link (other w) r s w)
-sent_whole {w = w} l r s most f g h =
-    whole_at (with_link (other w) r s w) (me w) (link r s (w.host (other w))) _ h.turn h.small h.last (put_other (other w) w.turn _ w.host (apart' w.turn h.small)) (put_same (other w) _ w.host) refl (sent l r s most f g h.both)
+pub sent_whole : {i m : ℕ} {x : List (List ℕ)} {n o : Node} {w : World} (l : List ℕ) (r s : List (List ℕ)) → ((k : List ℕ) → In k [] (link r s (w.host (other w))) → In k [] (w.host (other w)) ⊎ (k ≡ l)) → Legit m l o n (flip (seen w)) → Whole i m x n o w → Whole i m x n o (with_link (other w) r s w)
+sent_whole {w = w} l r s f g h =
+    whole_at (with_link (other w) r s w) (me w) (link r s (w.host (other w))) _ h.turn h.small h.last (put_other (other w) w.turn _ w.host (apart' w.turn h.small)) (put_same (other w) _ w.host) refl (sent l r s f g h.both)
 
 pub sends_whole : {i m : ℕ} {x : List (List ℕ)} {n o : Node} {w : World} {l : List ℕ} {d : World} → Sends w l d → Legit m l o n (flip (seen w)) → Whole i m x n o w → Whole i m x n o d
 sends_whole {i = i} {m = m} {x = x} {n = n} {o = o} {w = w} {l = l} s g h = go s
@@ -256,12 +250,9 @@ sends_whole {i = i} {m = m} {x = x} {n = n} {o = o} {w = w} {l = l} s g h = go s
     both s b a k (inr (inl i)) = elim (row (w.host (other w)).row k b i) [ inl j ↦ inl (inr (inl j)) | inr e ↦ inr e ]
     both s b a k (inr (inr i)) = old s a k i
 
-    fits : (r : List (List ℕ)) → length r ≤ 64 → length (taken r l) ≤ 64
-    fits r most = elim (cases_lt (length r) 64) [ inl lt ↦ rw (lt-ltb (length r) 64 lt) (let e = length-append r (l ∷ []) in omega arith) | inr ge ↦ rw (le-ltb (length r) 64 ge) most ]
-
     go : {d : World} → Sends w l d → Whole i m x n o d
-    go (takes s a) = sent_whole l (taken (w.host (other w)).row l) s (fits (w.host (other w)).row h.both.yours.fit.row) (both s (ltb (length (w.host (other w)).row) 64) a) g h
-    go (loses s a) = rough_whole (sent_whole l (w.host (other w)).row s h.both.yours.fit.row (both s false a) g h)
+    go (takes s a) = sent_whole l (taken (w.host (other w)).row l) s (both s (ltb (length (w.host (other w)).row) 64) a) g h
+    go (loses s a) = rough_whole (sent_whole l (w.host (other w)).row s (both s false a) g h)
 
 pub sends_fell : {w : World} {l : List ℕ} {d : World} → Sends w l d → d.fell ≡ w.fell
 sends_fell (takes s a) = refl
@@ -307,7 +298,7 @@ between_whole {i = i} (Between.asked v r e g) h = goes (goes_seated i g) (asked_
 
 pub start_whole : (w : World) → AtStart w → Whole 0 0 [] (fresh 0 true) (fresh 1 false) (seated 0 w)
 start_whole w s =
-    record { turn = refl; small = omega arith; last = omega (arith, s.3); both = record { ours = record { me = refl; fit = record { sides = refl; some = s.0; few = s.1; lost = λ _. s.4; row = none_yet 0 }; guest = record { told = λ e. no e (s.12 0).0; runner = λ _ _. refl; keeper = λ a. no runs a; running = λ z f. record { runs = runs; here = here; wanted = λ a. no a (sym (ap (λ z. z.wanted) (running_same f))); idle = λ _ a. no a s.6 }; copying = λ x f. clash f tt; paused = λ x f. clash f tt; committed = λ x f. clash f tt; receiving = λ x f. clash f tt }; cells = record { copies = λ _. (sym (c 0 0), sym (c 0 1), sym (c 0 2)); asleep = λ e. no refl e; took = omega (arith, c 0 0); done = omega (arith, c 0 2); parity = λ e. absurd (omega (arith, c 0 2)); most = omega (arith, c 0 1); committed = λ x f. clash f tt; receiving = λ x f. clash f tt }; order = record { later = λ _. omega (arith, c 1 1); had = λ _ e. absurd (omega (arith, c 1 1)); begun = omega (arith, c 0 2); untaken = λ _ e. absurd (omega (arith, c 0 1)) }; commits = λ r f. clash f tt; copy = record { carries = λ c f. none_some f; below = λ x f. clash f tt }; letters = λ l i. none 0 l i }; yours = record { me = refl; fit = record { sides = refl; some = s.0; few = s.1; lost = λ _. s.4; row = none_yet 1 }; guest = record { told = λ e. no e (s.12 1).0; runner = λ _ e. no e away; keeper = λ _ _ _ e. no e away; running = λ x f. clash f tt; copying = λ x f. clash f tt; paused = λ x f. clash f tt; committed = λ x f. clash f tt; receiving = λ x f. clash f tt }; cells = record { copies = λ e. no e refl; asleep = λ _. refl; took = omega (arith, c 1 0); done = omega (arith, c 1 2); parity = λ e. absurd (omega (arith, c 1 2)); most = omega (arith, c 1 1); committed = λ x f. clash f tt; receiving = λ x f. clash f tt }; order = record { later = λ e. no e away; had = λ e. no e away; begun = omega (arith, c 1 2); untaken = λ e. no e away }; commits = λ r f. clash f tt; copy = record { carries = λ c f. none_some f; below = λ x f. clash f tt }; letters = λ l i. none 1 l i } } }
+    record { turn = refl; small = omega arith; last = omega (arith, s.3); both = record { ours = record { me = refl; fit = record { sides = refl; some = s.0; few = s.1; lost = λ _. s.4 }; guest = record { told = λ e. no e (s.12 0).0; runner = λ _ _. refl; keeper = λ a. no runs a; running = λ z f. record { runs = runs; here = here; wanted = λ a. no a (sym (ap (λ z. z.wanted) (running_same f))); idle = λ _ a. no a s.6 }; copying = λ x f. clash f tt; paused = λ x f. clash f tt; committed = λ x f. clash f tt; receiving = λ x f. clash f tt }; cells = record { copies = λ _. (sym (c 0 0), sym (c 0 1), sym (c 0 2)); asleep = λ e. no refl e; took = omega (arith, c 0 0); done = omega (arith, c 0 2); parity = λ e. absurd (omega (arith, c 0 2)); most = omega (arith, c 0 1); committed = λ x f. clash f tt; receiving = λ x f. clash f tt }; order = record { later = λ _. omega (arith, c 1 1); had = λ _ e. absurd (omega (arith, c 1 1)); begun = omega (arith, c 0 2); untaken = λ _ e. absurd (omega (arith, c 0 1)) }; commits = λ r f. clash f tt; copy = record { carries = λ c f. none_some f; below = λ x f. clash f tt }; letters = λ l i. none 0 l i }; yours = record { me = refl; fit = record { sides = refl; some = s.0; few = s.1; lost = λ _. s.4 }; guest = record { told = λ e. no e (s.12 1).0; runner = λ _ e. no e away; keeper = λ _ _ _ e. no e away; running = λ x f. clash f tt; copying = λ x f. clash f tt; paused = λ x f. clash f tt; committed = λ x f. clash f tt; receiving = λ x f. clash f tt }; cells = record { copies = λ e. no e refl; asleep = λ _. refl; took = omega (arith, c 1 0); done = omega (arith, c 1 2); parity = λ e. absurd (omega (arith, c 1 2)); most = omega (arith, c 1 1); committed = λ x f. clash f tt; receiving = λ x f. clash f tt }; order = record { later = λ e. no e away; had = λ e. no e away; begun = omega (arith, c 1 2); untaken = λ e. no e away }; commits = λ r f. clash f tt; copy = record { carries = λ c f. none_some f; below = λ x f. clash f tt }; letters = λ l i. none 1 l i } } }
   where
     runs : w.runs ≡ true
     runs = is_true w.runs s.2
@@ -320,9 +311,6 @@ start_whole w s =
 
     c : (i k : ℕ) → (w.host i).cell k ≡ 0
     c i k = (s.12 i).3 k
-
-    none_yet : (i : ℕ) → length (w.host i).row ≤ 64
-    none_yet i = omega (arith, ap length (s.12 i).1)
 
     none : {A : Type 0} (i : ℕ) (l : List ℕ) → In l [] (w.host i) → A
     none i l (inl j) = elim j [ ]

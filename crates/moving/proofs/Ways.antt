@@ -1,7 +1,7 @@
 -- A way through a function: what was done so far, one more thing done, and how it ends.
 -- Assumes nothing.
 use Rattle.std.proofs.Common.{◌≡◌, ℕ, ◌+◌, ◌-◌, ◌<◌, ◌≤◌, Bool, true, false, not, List, [], ◌∷◌, is_ok, is_err, IfOk, Some, Ok, Err, Result, sym, refl, ap, ◌∙◌, subst, subst₂, arith}
-use borrow.Author.Tests.{both_ways, not_true}
+use borrow.Author.Tests.{both_ways, not-true}
 use Rattle.moving.specs.declared.Down.{Down}
 use Rattle.moving.specs.declared.Node.{Node}
 use Rattle.moving.specs.declared.state.Transfer.{Transfer}
@@ -38,7 +38,7 @@ then_ok j s b p f = record { up = step_up b p; whole = λ i z o h. more_whole (o
 
 -- a callee did what it says
 pub then_call : {A : Type 0} {x y : List (List ℕ)} {n m : Node} {f : A → Node} {w v t : World} {k j : ℕ} {r : A} → SoFar x n w k y m v → true ≡ not t.fell → Keeps j y m v (Ok r) f t → SoFar x n w (k + j) [] (f r) t
-then_call {t = t} s u c = record { up = not_true t.fell (sym u); whole = λ i z o h. more_whole (omega arith) (c.whole i _ o (s.whole i z o h)) }
+then_call {t = t} s u c = record { up = not-true t.fell (sym u); whole = λ i z o h. more_whole (omega arith) (c.whole i _ o (s.whole i z o h)) }
 
 -- more was allowed
 pub more : {x y : List (List ℕ)} {n m : Node} {w v : World} {k : ℕ} (j : ℕ) → k ≤ j → SoFar x n w k y m v → SoFar x n w j y m v

@@ -1,6 +1,6 @@
 -- What holds between turns, of the node of the host whose turn it is, the other's, and the world.
 -- Assumes nothing.
-use Rattle.std.specs.Prelude.{◌≡◌, ℕ, ◌+◌, ◌-◌, ◌/◌, ◌%◌, ◌^◌, ◌<◌, ◌≤◌, Bool, true, false, cond, not, T, ◌⊎◌, List, [], ◌∷◌, length, drop, Some, None, Ok, Err, Option, Result, ◌==◌, ◌≢◌, slice_index}
+use Rattle.std.specs.Prelude.{◌≡◌, ℕ, ◌+◌, ◌-◌, ◌/◌, ◌%◌, ◌^◌, ◌<◌, ◌≤◌, Bool, true, false, cond, not, T, ◌⊎◌, List, [], ◌∷◌, drop, Some, None, Ok, Err, Option, Result, ◌==◌, ◌≢◌, slice_index}
 use mathlib.Core.List.{Memᴰ}
 use Rattle.pageset.specs.Member.{member}
 use Rattle.window.specs.Pages as pages
@@ -108,9 +108,9 @@ Runs a u =
 abbrev pub Copied : View → Type 0
 Copied u = record { runs : u.runs ≡ true; here : u.here ≡ true; wish : u.wish ≡ true; told : u.mine.told ≡ false }
 
--- The two hosts are two, the guest has 1 to 4,096 pages, one that runs isn't lost, and 64 letters wait at most.
+-- The two hosts are two, the guest has 1 to 4,096 pages, and one that runs isn't lost.
 abbrev pub Fit : View → Type 0
-Fit u = record { sides : u.me + u.you ≡ 1; some : 1 ≤ u.pages; few : u.pages ≤ 4096; lost : (u.runs ≡ true → u.lost ≡ false); row : length u.mine.row ≤ 64 }
+Fit u = record { sides : u.me + u.you ≡ 1; some : 1 ≤ u.pages; few : u.pages ≤ 4096; lost : (u.runs ≡ true → u.lost ≡ false) }
 
 -- What the host's state says of the guest: who is told that it's to be moved; where it runs or was stopped; which state goes with which.
 abbrev pub Guest : Node → View → Type 0

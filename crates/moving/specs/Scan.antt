@@ -41,7 +41,6 @@ pub data Looks (x : Transfer) : List Bool → Transfer → Type 0 where
 pub record Scanned (pages most : ℕ) (x y : Transfer) : Type 0 where
   pub answers : List Bool
   pub looks : Looks x answers y
-  pub within : x.cursor ≤ pages → y.cursor ≤ pages
   pub cost : y.cursor + 2 * y.window.len ≤ x.cursor + most
   pub ends : (x.cursor + most < y.cursor + 2 * y.window.len + 3) ⊎ ((y.window.len ≡ 62) ⊎ (pages ≤ y.cursor))
 

@@ -1,17 +1,21 @@
 // What a node does by itself in its turn.
 ghost use Rattle.std.specs.Prelude.{◌≡◌, ℕ, ◌+◌, ◌-◌, ◌*◌, ◌%◌, ◌<◌, ◌≤◌, Bool, true, false, ◌||◌, List, [], is_ok, IfOk, Some, None, OnOk};
 ghost use Rattle.window.specs.Pages.{Sound};
-ghost use Rattle.letter.specs.Words.{head};
 ghost use Rattle.moving.specs.Used.{Soon, Used};
-ghost use Rattle.moving.specs.Calm.{Still, Added};
 ghost use Rattle.moving.specs.Hosts.{me};
 ghost use Rattle.moving.specs.Model.{Tidy, on_state, on_top, Enough, ticked, afresh};
 ghost use Rattle.moving.specs.Acted.{Copies, New, RunDid, CopyDid, PauseDid, ActedIn, commits, said_again, took_for};
 ghost use Rattle.moving.specs.Invariant.{Ready, Keeps};
-
+use super::Down;
+use super::Node;
+use super::Place;
+use super::asks;
 use super::right::Right;
-use super::state::{Committed, Paused, Running, State, Transfer};
-use super::{Down, Node, Place, asks};
+use super::state::Committed;
+use super::state::Paused;
+use super::state::Running;
+use super::state::State;
+use super::state::Transfer;
 use letter::Kind;
 
 // A pass that took more turns than this isn't followed by a stop.
@@ -35,15 +39,14 @@ fn next_attempt(top: u64, me: u64) -> u64
 impl Node {
     // Whether the guest, which runs here, is to be moved.
     fn wants<P: Place>(&mut self, w: &mut P, x: Running) -> Result<bool, Down>
-        requires soon { Soon 1 (world w.old) }
+        requires soon { Soon 1 (P.world w.old) }
         requires awake { self.old.awake ≡ true }
         requires tidy { Tidy (on_state (State.Running x) self.old) }
-        requires ready { Ready 0 [] (on_state (State.Running x) self.old) (world w.old) }
-        ensures used { Used 1 (world w.old) (is_ok result) (world w.new) }
+        requires ready { Ready 0 [] (on_state (State.Running x) self.old) (P.world w.old) }
+        ensures used { Used 1 (P.world w.old) (is_ok result) (P.world w.new) }
         ensures is { IfOk result (λ b. self.new ≡ on_state (State.Running (record { wanted = b })) self.old) }
-        ensures value { IfOk result (λ b. b ≡ (x.wanted || (me (world w.old)).told)) }
-        ensures line { OnOk result (Still (world w.old) (world w.new)) }
-        ensures keeps { Keeps 0 [] (on_state (State.Running x) self.old) (world w.old) result (λ _. self.new) (world w.new) }
+        ensures value { IfOk result (λ b. b ≡ (x.wanted || (me (P.world w.old)).told)) }
+        ensures keeps { Keeps 0 [] (on_state (State.Running x) self.old) (P.world w.old) result (λ _. self.new) (P.world w.new) }
     {
         if x.wanted {
             self.state = State::Running(x);
@@ -56,17 +59,16 @@ impl Node {
 
     // A new attempt.
     fn attempt<P: Place>(&mut self, w: &mut P) -> Result<Transfer, Down>
-        requires soon { Soon 1 (world w.old) }
+        requires soon { Soon 1 (P.world w.old) }
         requires awake { self.old.awake ≡ true }
         requires tidy { Tidy self.old }
-        requires ready { Ready 2 [] self.old (world w.old) }
+        requires ready { Ready 2 [] self.old (P.world w.old) }
         requires wanted { self.old.state ≡ State.Running (record { wanted = true }) }
-        ensures used { Used 1 (world w.old) (is_ok result) (world w.new) }
+        ensures used { Used 1 (P.world w.old) (is_ok result) (P.world w.new) }
         ensures is { IfOk result (λ c. self.new ≡ on_top c.attempt self.old.state self.old) }
         ensures new { IfOk result (λ c. Sound c.window × (c.window.len ≡ 0) × (self.old.top < c.attempt)) }
-        ensures pass { IfOk result (λ c. New (world w.old).pages self.old c) }
-        ensures line { OnOk result (Still (world w.old) (world w.new)) }
-        ensures keeps { Keeps 2 [] self.old (world w.old) result (λ c. on_state (State.Copying c) self.new) (world w.new) }
+        ensures pass { IfOk result (λ c. New (P.world w.old).pages self.old c) }
+        ensures keeps { Keeps 2 [] self.old (P.world w.old) result (λ c. on_state (State.Copying c) self.new) (P.world w.new) }
     {
         let t = next_attempt(self.top, self.me);
         let transfer = Transfer::new(t, w.pages());
@@ -77,16 +79,16 @@ impl Node {
 
     // The guest runs here: if it is to be moved, an attempt begins.
     fn run<P: Place>(&mut self, w: &mut P, x: Running, most: u32) -> Result<(), Down>
-        requires soon { Soon most (world w.old) }
+        requires soon { Soon most (P.world w.old) }
         requires awake { self.old.awake ≡ true }
         requires tidy { Tidy (on_state (State.Running x) self.old) }
-        requires ready { Ready 64 [] (on_state (State.Running x) self.old) (world w.old) }
+        requires ready { Ready 64 [] (on_state (State.Running x) self.old) (P.world w.old) }
         requires enough { 3 ≤ most }
-        ensures used { Used most (world w.old) (is_ok result) (world w.new) }
+        ensures used { Used most (P.world w.old) (is_ok result) (P.world w.new) }
         ensures tidy { OnOk result (Tidy self.new) }
         ensures awake { OnOk result (self.new.awake ≡ true) }
-        ensures is { OnOk result (RunDid (world w.old).pages most (me (world w.old)).told x (on_state State.Away self.old) (world w.old) self.new (world w.new)) }
-        ensures keeps { Keeps 64 [] (on_state (State.Running x) self.old) (world w.old) result (λ _. self.new) (world w.new) }
+        ensures is { OnOk result (RunDid (P.world w.old).pages most (me (P.world w.old)).told x (on_state State.Away self.old) self.new) }
+        ensures keeps { Keeps 64 [] (on_state (State.Running x) self.old) (P.world w.old) result (λ _. self.new) (P.world w.new) }
     {
         if !self.wants(w, x)? {
             return Ok(());
@@ -99,16 +101,16 @@ impl Node {
 
     // The guest runs here and is copied: after a short pass it is stopped.
     fn copy<P: Place>(&mut self, w: &mut P, x: Transfer, most: u32) -> Result<(), Down>
-        requires soon { Soon most (world w.old) }
+        requires soon { Soon most (P.world w.old) }
         requires awake { self.old.awake ≡ true }
         requires tidy { Tidy (on_state (State.Copying x) self.old) }
-        requires ready { Ready 62 [] (on_state (State.Copying x) self.old) (world w.old) }
+        requires ready { Ready 62 [] (on_state (State.Copying x) self.old) (P.world w.old) }
         requires enough { 2 + 2 * x.window.len ≤ most }
-        ensures used { Used most (world w.old) (is_ok result) (world w.new) }
+        ensures used { Used most (P.world w.old) (is_ok result) (P.world w.new) }
         ensures tidy { OnOk result (Tidy self.new) }
         ensures awake { OnOk result (self.new.awake ≡ true) }
-        ensures is { OnOk result (CopyDid (world w.old).pages most x (on_state State.Away self.old) (world w.old) self.new (world w.new)) }
-        ensures keeps { Keeps 62 [] (on_state (State.Copying x) self.old) (world w.old) result (λ _. self.new) (world w.new) }
+        ensures is { OnOk result (CopyDid (P.world w.old).pages most x (on_state State.Away self.old) self.new) }
+        ensures keeps { Keeps 62 [] (on_state (State.Copying x) self.old) (P.world w.old) result (λ _. self.new) (P.world w.new) }
     {
         if !x.is_over(w.pages()) {
             let mut y = x.tick();
@@ -134,18 +136,17 @@ impl Node {
 
     // All is there: the attempt is committed.
     fn commit<P: Place>(&mut self, w: &mut P, x: Paused) -> Result<(), Down>
-        requires soon { Soon 2 (world w.old) }
+        requires soon { Soon 2 (P.world w.old) }
         requires awake { self.old.awake ≡ true }
         requires tidy { Tidy (on_state (State.Paused x) self.old) }
-        requires ready { Ready 0 [] (on_state (State.Paused x) self.old) (world w.old) }
+        requires ready { Ready 0 [] (on_state (State.Paused x) self.old) (P.world w.old) }
         requires none { x.transfer.window.len ≡ 0 }
-        requires all { x.transfer.cursor ≡ (world w.old).pages }
-        ensures used { Used 2 (world w.old) (is_ok result) (world w.new) }
+        requires all { x.transfer.cursor ≡ (P.world w.old).pages }
+        ensures used { Used 2 (P.world w.old) (is_ok result) (P.world w.new) }
         ensures tidy { OnOk result (Tidy self.new) }
         ensures awake { OnOk result (self.new.awake ≡ true) }
         ensures is { OnOk result (self.new ≡ commits x.transfer.attempt self.old) }
-        ensures line { OnOk result (Added (head Kind.Commit x.transfer.attempt 0 0) (world w.old) (world w.new)) }
-        ensures keeps { Keeps 0 [] (on_state (State.Paused x) self.old) (world w.old) result (λ _. self.new) (world w.new) }
+        ensures keeps { Keeps 0 [] (on_state (State.Paused x) self.old) (P.world w.old) result (λ _. self.new) (P.world w.new) }
     {
         let attempt = x.transfer.attempt;
         x.right.commit(w)?;
@@ -161,16 +162,16 @@ impl Node {
 
     // It stands too long: the guest goes on here, and is copied on.
     fn give_up<P: Place>(&mut self, w: &mut P, x: Paused, most: u32) -> Result<(), Down>
-        requires soon { Soon most (world w.old) }
+        requires soon { Soon most (P.world w.old) }
         requires awake { self.old.awake ≡ true }
         requires tidy { Tidy (on_state (State.Paused x) self.old) }
-        requires ready { Ready 62 [] (on_state (State.Paused x) self.old) (world w.old) }
+        requires ready { Ready 62 [] (on_state (State.Paused x) self.old) (P.world w.old) }
         requires enough { 2 + 2 * x.transfer.window.len ≤ most }
-        ensures used { Used most (world w.old) (is_ok result) (world w.new) }
+        ensures used { Used most (P.world w.old) (is_ok result) (P.world w.new) }
         ensures tidy { OnOk result (Tidy self.new) }
         ensures awake { OnOk result (self.new.awake ≡ true) }
-        ensures is { OnOk result (Copies (world w.old).pages (most - 1) (ticked (afresh x.transfer)) (took_for x.transfer.attempt (on_state State.Away self.old)) (world w.old) self.new (world w.new)) }
-        ensures keeps { Keeps 62 [] (on_state (State.Paused x) self.old) (world w.old) result (λ _. self.new) (world w.new) }
+        ensures is { OnOk result (Copies (P.world w.old).pages (most - 1) (ticked (afresh x.transfer)) (took_for x.transfer.attempt (on_state State.Away self.old)) self.new) }
+        ensures keeps { Keeps 62 [] (on_state (State.Paused x) self.old) (P.world w.old) result (λ _. self.new) (P.world w.new) }
     {
         let Paused {
             transfer,
@@ -187,16 +188,16 @@ impl Node {
 
     // The guest was stopped here: the rest of it is sent, and then the attempt is committed.
     fn pause<P: Place>(&mut self, w: &mut P, x: Paused, most: u32) -> Result<(), Down>
-        requires soon { Soon most (world w.old) }
+        requires soon { Soon most (P.world w.old) }
         requires awake { self.old.awake ≡ true }
         requires tidy { Tidy (on_state (State.Paused x) self.old) }
-        requires ready { Ready 62 [] (on_state (State.Paused x) self.old) (world w.old) }
+        requires ready { Ready 62 [] (on_state (State.Paused x) self.old) (P.world w.old) }
         requires enough { 2 + 2 * x.transfer.window.len ≤ most }
-        ensures used { Used most (world w.old) (is_ok result) (world w.new) }
+        ensures used { Used most (P.world w.old) (is_ok result) (P.world w.new) }
         ensures tidy { OnOk result (Tidy self.new) }
         ensures awake { OnOk result (self.new.awake ≡ true) }
-        ensures is { OnOk result (PauseDid (world w.old).pages most x (on_state State.Away self.old) (world w.old) self.new (world w.new)) }
-        ensures keeps { Keeps 62 [] (on_state (State.Paused x) self.old) (world w.old) result (λ _. self.new) (world w.new) }
+        ensures is { OnOk result (PauseDid (P.world w.old).pages most x (on_state State.Away self.old) self.new) }
+        ensures keeps { Keeps 62 [] (on_state (State.Paused x) self.old) (P.world w.old) result (λ _. self.new) (P.world w.new) }
     {
         if x.transfer.is_over(w.pages()) {
             return self.commit(w, x);
@@ -221,16 +222,15 @@ impl Node {
 
     // The attempt is committed: the other host is told so again.
     fn say_again<P: Place>(&mut self, w: &mut P, x: Committed) -> Result<(), Down>
-        requires soon { Soon 1 (world w.old) }
+        requires soon { Soon 1 (P.world w.old) }
         requires awake { self.old.awake ≡ true }
         requires tidy { Tidy (on_state (State.Committed x) self.old) }
-        requires ready { Ready 0 [] (on_state (State.Committed x) self.old) (world w.old) }
-        ensures used { Used 1 (world w.old) (is_ok result) (world w.new) }
+        requires ready { Ready 0 [] (on_state (State.Committed x) self.old) (P.world w.old) }
+        ensures used { Used 1 (P.world w.old) (is_ok result) (P.world w.new) }
         ensures tidy { OnOk result (Tidy self.new) }
         ensures awake { OnOk result (self.new.awake ≡ true) }
         ensures is { OnOk result (self.new ≡ said_again x self.old) }
-        ensures line { OnOk result (Added (head Kind.Commit x.attempt 0 0) (world w.old) (world w.new)) }
-        ensures keeps { Keeps 0 [] (on_state (State.Committed x) self.old) (world w.old) result (λ _. self.new) (world w.new) }
+        ensures keeps { Keeps 0 [] (on_state (State.Committed x) self.old) (P.world w.old) result (λ _. self.new) (P.world w.new) }
     {
         self.state = State::Committed(Committed {
             attempt: x.attempt,
@@ -243,16 +243,16 @@ impl Node {
 
     // What it does by itself, with so many asks at most.
     pub fn act<P: Place>(&mut self, w: &mut P, most: u32) -> Result<(), Down>
-        requires soon { Soon most (world w.old) }
+        requires soon { Soon most (P.world w.old) }
         requires awake { self.old.awake ≡ true }
         requires tidy { Tidy self.old }
-        requires ready { Ready 64 [] self.old (world w.old) }
+        requires ready { Ready 64 [] self.old (P.world w.old) }
         requires enough { Enough most self.old.state }
-        ensures used { Used most (world w.old) (is_ok result) (world w.new) }
+        ensures used { Used most (P.world w.old) (is_ok result) (P.world w.new) }
         ensures tidy { OnOk result (Tidy self.new) }
         ensures awake { OnOk result (self.new.awake ≡ true) }
-        ensures is { OnOk result (ActedIn (world w.old).pages most (me (world w.old)).told self.old.state (on_state State.Away self.old) (world w.old) self.new (world w.new)) }
-        ensures keeps { Keeps 64 [] self.old (world w.old) result (λ _. self.new) (world w.new) }
+        ensures is { OnOk result (ActedIn (P.world w.old).pages most (me (P.world w.old)).told self.old.state (on_state State.Away self.old) self.new) }
+        ensures keeps { Keeps 64 [] self.old (P.world w.old) result (λ _. self.new) (P.world w.new) }
     {
         let state = std::mem::replace(&mut self.state, State::Away);
         match state {

@@ -1,17 +1,24 @@
 // What each letter makes of a node.
-ghost use Rattle.std.specs.Prelude.{◌≡◌, ℕ, ◌+◌, ◌-◌, ◌*◌, ◌<◌, ◌≤◌, Bool, true, false, List, [], ◌∷◌, length, is_ok, IfOk, Some, None, OnOk};
+ghost use Rattle.std.specs.Prelude.{◌≡◌, ℕ, ◌+◌, ◌-◌, ◌*◌, ◌<◌, ◌≤◌, Bool, true, false, List, [], ◌∷◌, is_ok, IfOk, Some, None, OnOk};
 ghost use Rattle.letter.specs.Words.{spelt};
 ghost use Rattle.moving.specs.Used.{Soon, Used};
-ghost use Rattle.moving.specs.Calm.{row_here, Still, Hearing, HeardAll};
 ghost use Rattle.moving.specs.Model.{Tidy, Windowed, moving, begins, probed, received, taken, refused, refused_in, acked, acked_in, gone_in, on_state, heeded};
 ghost use Rattle.moving.specs.Acted.{Heard, OneHeard};
 ghost use Rattle.window.specs.Pages.{Sound};
 ghost use Rattle.moving.specs.Invariant.{Ready, Keeps};
-
+use super::Down;
+use super::Node;
+use super::Place;
+use super::asks;
 use super::right::Right;
-use super::state::{Committed, Paused, Receiving, Running, State, Transfer};
-use super::{Down, Node, Place, asks};
-use letter::{Kind, Letter};
+use super::state::Committed;
+use super::state::Paused;
+use super::state::Receiving;
+use super::state::Running;
+use super::state::State;
+use super::state::Transfer;
+use letter::Kind;
+use letter::Letter;
 
 impl State {
     // May an attempt of the other begin here?
@@ -28,17 +35,16 @@ impl State {
 impl Node {
     // The other host asks whether this one is with it in its attempt.
     fn probed<P: Place>(&mut self, w: &mut P, l: &Letter) -> Result<(), Down>
-        requires soon { Soon 1 (world w.old) }
+        requires soon { Soon 1 (P.world w.old) }
         requires awake { self.old.awake ≡ true }
         requires tidy { Tidy self.old }
-        requires ready { Ready 0 (spelt l.now ∷ []) self.old (world w.old) }
+        requires ready { Ready 0 (spelt l.now ∷ []) self.old (P.world w.old) }
         requires kind { l.now.kind ≡ Kind.Probe }
-        ensures used { Used 1 (world w.old) (is_ok result) (world w.new) }
+        ensures used { Used 1 (P.world w.old) (is_ok result) (P.world w.new) }
         ensures is { OnOk result (self.new ≡ probed l.now.attempt self.old) }
-        ensures line { OnOk result (Still (world w.old) (world w.new)) }
         ensures awake { OnOk result (self.new.awake ≡ true) }
         ensures tidy { OnOk result (Tidy self.new) }
-        ensures keeps { Keeps 0 (spelt l.now ∷ []) self.old (world w.old) result (λ _. self.new) (world w.new) }
+        ensures keeps { Keeps 0 (spelt l.now ∷ []) self.old (P.world w.old) result (λ _. self.new) (P.world w.new) }
     {
         let t = l.attempt;
         self.asked = Some(t);
@@ -56,17 +62,16 @@ impl Node {
 
     // A page: it is put if it is the next of the attempt that is received.
     fn page_came<P: Place>(&mut self, w: &mut P, l: &Letter) -> Result<(), Down>
-        requires soon { Soon 1 (world w.old) }
+        requires soon { Soon 1 (P.world w.old) }
         requires awake { self.old.awake ≡ true }
         requires tidy { Tidy self.old }
-        requires ready { Ready 0 (spelt l.now ∷ []) self.old (world w.old) }
+        requires ready { Ready 0 (spelt l.now ∷ []) self.old (P.world w.old) }
         requires kind { l.now.kind ≡ Kind.Page }
-        ensures used { Used 1 (world w.old) (is_ok result) (world w.new) }
-        ensures is { OnOk result (self.new ≡ received (world w.old).pages l.now self.old) }
-        ensures line { OnOk result (Still (world w.old) (world w.new)) }
+        ensures used { Used 1 (P.world w.old) (is_ok result) (P.world w.new) }
+        ensures is { OnOk result (self.new ≡ received (P.world w.old).pages l.now self.old) }
         ensures awake { OnOk result (self.new.awake ≡ true) }
         ensures tidy { OnOk result (Tidy self.new) }
-        ensures keeps { Keeps 0 (spelt l.now ∷ []) self.old (world w.old) result (λ _. self.new) (world w.new) }
+        ensures keeps { Keeps 0 (spelt l.now ∷ []) self.old (P.world w.old) result (λ _. self.new) (P.world w.new) }
     {
         let State::Receiving(x) = self.state else {
             return Ok(());
@@ -85,17 +90,16 @@ impl Node {
 
     // The other host has committed its attempt: all of its pages are put here, so the guest goes on here.
     fn committed<P: Place>(&mut self, w: &mut P, l: &Letter) -> Result<(), Down>
-        requires soon { Soon 1 (world w.old) }
+        requires soon { Soon 1 (P.world w.old) }
         requires awake { self.old.awake ≡ true }
         requires tidy { Tidy self.old }
-        requires ready { Ready 0 (spelt l.now ∷ []) self.old (world w.old) }
+        requires ready { Ready 0 (spelt l.now ∷ []) self.old (P.world w.old) }
         requires kind { l.now.kind ≡ Kind.Commit }
-        ensures used { Used 1 (world w.old) (is_ok result) (world w.new) }
+        ensures used { Used 1 (P.world w.old) (is_ok result) (P.world w.new) }
         ensures is { OnOk result (self.new ≡ taken l.now.attempt self.old) }
-        ensures line { OnOk result (Still (world w.old) (world w.new)) }
         ensures awake { OnOk result (self.new.awake ≡ true) }
         ensures tidy { OnOk result (Tidy self.new) }
-        ensures keeps { Keeps 0 (spelt l.now ∷ []) self.old (world w.old) result (λ _. self.new) (world w.new) }
+        ensures keeps { Keeps 0 (spelt l.now ∷ []) self.old (P.world w.old) result (λ _. self.new) (P.world w.new) }
     {
         let t = l.attempt;
         self.asked = Some(t);
@@ -113,17 +117,16 @@ impl Node {
 
     // The attempt that is committed here is refused: the guest goes on here, unless this host has fallen since.
     fn refused_commit<P: Place>(&mut self, w: &mut P, l: &Letter, x: Committed) -> Result<(), Down>
-        requires soon { Soon 1 (world w.old) }
+        requires soon { Soon 1 (P.world w.old) }
         requires awake { self.old.awake ≡ true }
         requires tidy { Tidy (on_state (State.Committed x) self.old) }
-        requires ready { Ready 0 (spelt l.now ∷ []) (on_state (State.Committed x) self.old) (world w.old) }
+        requires ready { Ready 0 (spelt l.now ∷ []) (on_state (State.Committed x) self.old) (P.world w.old) }
         requires kind { l.now.kind ≡ Kind.Refuse }
-        ensures used { Used 1 (world w.old) (is_ok result) (world w.new) }
+        ensures used { Used 1 (P.world w.old) (is_ok result) (P.world w.new) }
         ensures is { OnOk result (self.new ≡ refused l.now.attempt (on_state (State.Committed x) self.old)) }
-        ensures line { OnOk result (Still (world w.old) (world w.new)) }
         ensures awake { OnOk result (self.new.awake ≡ true) }
         ensures tidy { OnOk result (Tidy self.new) }
-        ensures keeps { Keeps 0 (spelt l.now ∷ []) (on_state (State.Committed x) self.old) (world w.old) result (λ _. self.new) (world w.new) }
+        ensures keeps { Keeps 0 (spelt l.now ∷ []) (on_state (State.Committed x) self.old) (P.world w.old) result (λ _. self.new) (P.world w.new) }
     {
         let t = l.attempt;
         if x.attempt != t {
@@ -142,16 +145,15 @@ impl Node {
 
     // The attempt for which the guest was stopped here is refused: it goes on here.
     fn refused_pause<P: Place>(&mut self, w: &mut P, l: &Letter, x: Paused) -> Result<(), Down>
-        requires soon { Soon 1 (world w.old) }
+        requires soon { Soon 1 (P.world w.old) }
         requires awake { self.old.awake ≡ true }
         requires tidy { Tidy (on_state (State.Paused x) self.old) }
-        requires ready { Ready 0 (spelt l.now ∷ []) (on_state (State.Paused x) self.old) (world w.old) }
-        ensures used { Used 1 (world w.old) (is_ok result) (world w.new) }
+        requires ready { Ready 0 (spelt l.now ∷ []) (on_state (State.Paused x) self.old) (P.world w.old) }
+        ensures used { Used 1 (P.world w.old) (is_ok result) (P.world w.new) }
         ensures is { OnOk result (self.new ≡ refused l.now.attempt (on_state (State.Paused x) self.old)) }
-        ensures line { OnOk result (Still (world w.old) (world w.new)) }
         ensures awake { OnOk result (self.new.awake ≡ true) }
         ensures tidy { OnOk result (Tidy self.new) }
-        ensures keeps { Keeps 0 (spelt l.now ∷ []) (on_state (State.Paused x) self.old) (world w.old) result (λ _. self.new) (world w.new) }
+        ensures keeps { Keeps 0 (spelt l.now ∷ []) (on_state (State.Paused x) self.old) (P.world w.old) result (λ _. self.new) (P.world w.new) }
     {
         let t = l.attempt;
         if x.transfer.attempt != t {
@@ -166,17 +168,16 @@ impl Node {
 
     // The other host never will take the attempt.
     fn refused<P: Place>(&mut self, w: &mut P, l: &Letter) -> Result<(), Down>
-        requires soon { Soon 1 (world w.old) }
+        requires soon { Soon 1 (P.world w.old) }
         requires awake { self.old.awake ≡ true }
         requires tidy { Tidy self.old }
-        requires ready { Ready 0 (spelt l.now ∷ []) self.old (world w.old) }
+        requires ready { Ready 0 (spelt l.now ∷ []) self.old (P.world w.old) }
         requires kind { l.now.kind ≡ Kind.Refuse }
-        ensures used { Used 1 (world w.old) (is_ok result) (world w.new) }
+        ensures used { Used 1 (P.world w.old) (is_ok result) (P.world w.new) }
         ensures is { OnOk result (self.new ≡ refused l.now.attempt self.old) }
-        ensures line { OnOk result (Still (world w.old) (world w.new)) }
         ensures awake { OnOk result (self.new.awake ≡ true) }
         ensures tidy { OnOk result (Tidy self.new) }
-        ensures keeps { Keeps 0 (spelt l.now ∷ []) self.old (world w.old) result (λ _. self.new) (world w.new) }
+        ensures keeps { Keeps 0 (spelt l.now ∷ []) self.old (P.world w.old) result (λ _. self.new) (P.world w.new) }
     {
         let state = std::mem::replace(&mut self.state, State::Away);
         match state {
@@ -195,17 +196,16 @@ impl Node {
 
     // The other host has put all places of the attempt below that one.
     fn acknowledged<P: Place>(&mut self, w: &mut P, l: &Letter) -> Result<(), Down>
-        requires soon { Soon 1 (world w.old) }
+        requires soon { Soon 1 (P.world w.old) }
         requires awake { self.old.awake ≡ true }
         requires tidy { Tidy self.old }
-        requires ready { Ready 0 (spelt l.now ∷ []) self.old (world w.old) }
+        requires ready { Ready 0 (spelt l.now ∷ []) self.old (P.world w.old) }
         requires kind { l.now.kind ≡ Kind.Ack }
-        ensures used { Used 1 (world w.old) (is_ok result) (world w.new) }
+        ensures used { Used 1 (P.world w.old) (is_ok result) (P.world w.new) }
         ensures is { OnOk result (self.new ≡ on_state (acked_in l.now.attempt l.now.place self.old.state) self.old) }
-        ensures line { OnOk result (Still (world w.old) (world w.new)) }
         ensures awake { OnOk result (self.new.awake ≡ true) }
         ensures tidy { OnOk result (Tidy self.new) }
-        ensures keeps { Keeps 0 (spelt l.now ∷ []) self.old (world w.old) result (λ _. self.new) (world w.new) }
+        ensures keeps { Keeps 0 (spelt l.now ∷ []) self.old (P.world w.old) result (λ _. self.new) (P.world w.new) }
     {
         let state = std::mem::replace(&mut self.state, State::Away);
         self.state = state.acked(l.attempt, l.place);
@@ -214,17 +214,16 @@ impl Node {
 
     // The other host has taken the attempt.
     fn gone<P: Place>(&mut self, w: &mut P, l: &Letter) -> Result<(), Down>
-        requires soon { Soon 1 (world w.old) }
+        requires soon { Soon 1 (P.world w.old) }
         requires awake { self.old.awake ≡ true }
         requires tidy { Tidy self.old }
-        requires ready { Ready 0 (spelt l.now ∷ []) self.old (world w.old) }
+        requires ready { Ready 0 (spelt l.now ∷ []) self.old (P.world w.old) }
         requires kind { l.now.kind ≡ Kind.Taken }
-        ensures used { Used 1 (world w.old) (is_ok result) (world w.new) }
+        ensures used { Used 1 (P.world w.old) (is_ok result) (P.world w.new) }
         ensures is { OnOk result (self.new ≡ on_state (gone_in l.now.attempt self.old.state) self.old) }
-        ensures line { OnOk result (Still (world w.old) (world w.new)) }
         ensures awake { OnOk result (self.new.awake ≡ true) }
         ensures tidy { OnOk result (Tidy self.new) }
-        ensures keeps { Keeps 0 (spelt l.now ∷ []) self.old (world w.old) result (λ _. self.new) (world w.new) }
+        ensures keeps { Keeps 0 (spelt l.now ∷ []) self.old (P.world w.old) result (λ _. self.new) (P.world w.new) }
     {
         let State::Committed(x) = self.state else {
             return Ok(());
@@ -237,16 +236,15 @@ impl Node {
 
     // A letter has come.
     fn heed<P: Place>(&mut self, w: &mut P, l: &Letter) -> Result<(), Down>
-        requires soon { Soon 1 (world w.old) }
+        requires soon { Soon 1 (P.world w.old) }
         requires awake { self.old.awake ≡ true }
         requires tidy { Tidy self.old }
-        requires ready { Ready 0 (spelt l.now ∷ []) self.old (world w.old) }
-        ensures used { Used 1 (world w.old) (is_ok result) (world w.new) }
-        ensures is { OnOk result (self.new ≡ heeded (world w.old).pages l.now self.old) }
-        ensures line { OnOk result (Still (world w.old) (world w.new)) }
+        requires ready { Ready 0 (spelt l.now ∷ []) self.old (P.world w.old) }
+        ensures used { Used 1 (P.world w.old) (is_ok result) (P.world w.new) }
+        ensures is { OnOk result (self.new ≡ heeded (P.world w.old).pages l.now self.old) }
         ensures awake { OnOk result (self.new.awake ≡ true) }
         ensures tidy { OnOk result (Tidy self.new) }
-        ensures keeps { Keeps 0 (spelt l.now ∷ []) self.old (world w.old) result (λ _. self.new) (world w.new) }
+        ensures keeps { Keeps 0 (spelt l.now ∷ []) self.old (P.world w.old) result (λ _. self.new) (P.world w.new) }
     {
         match l.kind {
             Kind::Probe => self.probed(w, l),
@@ -260,19 +258,17 @@ impl Node {
 
     // The next letter, if one has come: how many that is.
     fn hear_one<P: Place>(&mut self, w: &mut P) -> Result<u32, Down>
-        requires soon { Soon 2 (world w.old) }
+        requires soon { Soon 2 (P.world w.old) }
         requires awake { self.old.awake ≡ true }
         requires tidy { Tidy self.old }
-        requires ready { Ready 0 [] self.old (world w.old) }
-        ensures used { Used 2 (world w.old) (is_ok result) (world w.new) }
-        ensures one { IfOk result (λ k. (k ≤ 1) × ((world w.old).left ≤ (world w.new).left + k + 1)) }
+        requires ready { Ready 0 [] self.old (P.world w.old) }
+        ensures used { Used 2 (P.world w.old) (is_ok result) (P.world w.new) }
+        ensures one { IfOk result (λ k. (k ≤ 1) × ((P.world w.old).left ≤ (P.world w.new).left + k + 1)) }
         ensures awake { OnOk result (self.new.awake ≡ true) }
         ensures tidy { OnOk result (Tidy self.new) }
         ensures idle { OnOk result (moving self.old.state ≡ None → moving self.new.state ≡ None) }
-        ensures is { IfOk result (λ k. OneHeard (world w.old).pages k self.old self.new) }
-        ensures line { IfOk result (λ k. Hearing (world w.old).pages self.old (world w.old) k self.new (world w.new)) }
-        ensures none { IfOk result (λ k. k ≡ 0 → (world w.new).rough ≡ false → row_here (world w.new) ≡ []) }
-        ensures keeps { Keeps 0 [] self.old (world w.old) result (λ _. self.new) (world w.new) }
+        ensures is { IfOk result (λ k. OneHeard (P.world w.old).pages k self.old self.new) }
+        ensures keeps { Keeps 0 [] self.old (P.world w.old) result (λ _. self.new) (P.world w.new) }
     {
         let mut words = [0u64; 72];
         if !asks::recv(w, &mut words)? {
@@ -287,20 +283,18 @@ impl Node {
 
     // All that has come, 64 letters at most: how often may still be asked at least, of `most`.
     pub fn hear<P: Place>(&mut self, w: &mut P, most: u32) -> Result<u32, Down>
-        requires soon { Soon most (world w.old) }
+        requires soon { Soon most (P.world w.old) }
         requires enough { 128 ≤ most }
         requires awake { self.old.awake ≡ true }
         requires tidy { Tidy self.old }
-        requires ready { Ready 0 [] self.old (world w.old) }
-        ensures used { Used 128 (world w.old) (is_ok result) (world w.new) }
-        ensures rest { IfOk result (λ m. (m ≤ (world w.new).left) × (most ≤ m + 128)) }
+        requires ready { Ready 0 [] self.old (P.world w.old) }
+        ensures used { Used 128 (P.world w.old) (is_ok result) (P.world w.new) }
+        ensures rest { IfOk result (λ m. (m ≤ (P.world w.new).left) × (most ≤ m + 128)) }
         ensures awake { OnOk result (self.new.awake ≡ true) }
         ensures tidy { OnOk result (Tidy self.new) }
         ensures idle { OnOk result (moving self.old.state ≡ None → moving self.new.state ≡ None) }
-        ensures is { OnOk result (Heard (world w.old).pages self.old self.new) }
-        ensures line { OnOk result (HeardAll (world w.old).pages self.old (world w.old) self.new (world w.new)) }
-        ensures cost { IfOk result (λ left. (world w.new).rough ≡ false → most ≤ left + 2 * length (row_here (world w.old)) + 1) }
-        ensures keeps { Keeps 0 [] self.old (world w.old) result (λ _. self.new) (world w.new) }
+        ensures is { OnOk result (Heard (P.world w.old).pages self.old self.new) }
+        ensures keeps { Keeps 0 [] self.old (P.world w.old) result (λ _. self.new) (P.world w.new) }
     {
         let mut left = most;
         let mut n: u32 = 0;

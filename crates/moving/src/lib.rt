@@ -5,7 +5,6 @@ ghost use Rattle.moving.specs.Promise.{OneTruth, LostStays};
 ghost use Rattle.moving.specs.Model.{Rested};
 ghost use Rattle.moving.specs.Invariant.{fresh, Ready, Keeps};
 ghost use Rattle.moving.specs.Acted.{Turned};
-ghost use Rattle.moving.specs.Used.{Counts};
 
 // The host has fallen: nothing that it knows is left but its cells.
 #[derive(Clone, Copy)]
@@ -63,37 +62,37 @@ pub trait Place {
 pub trait Sky: Place {
     // whose turn it is; who has had one, stands (false: all is over)
     fn seat(&mut self, i: u32) -> bool
-        requires { (world self.old).fell ≡ false }
-        ensures { T result → world self.new ≡ seated i (world self.old) };
+        requires { (Self.world self.old).fell ≡ false }
+        ensures { T result → Self.world self.new ≡ seated i (Self.world self.old) };
     // it has fallen, and begins anew
     fn renew(&mut self)
-        requires { (world self.old).fell ≡ true }
-        ensures { world self.new ≡ renewed (world self.old) };
+        requires { (Self.world self.old).fell ≡ true }
+        ensures { Self.world self.new ≡ renewed (Self.world self.old) };
 
     fn between(&mut self)
-        ensures { Between (world self.old) (world self.new) };
+        ensures { Between (Self.world self.old) (Self.world self.new) };
     // Both had a turn. That all is in time is the other promise.
     fn round(&mut self)
-        requires { T (InTime (world self.old)) }
-        ensures { world self.new ≡ rounded (world self.old) };
+        requires { T (InTime (Self.world self.old)) }
+        ensures { Self.world self.new ≡ rounded (Self.world self.old) };
 }
 
 // What no host sees, where a round may end at any time: nothing is asked of how long the guest stands still.
 pub trait AnySky: Place {
     // whose turn it is; who has had one, stands (false: all is over)
     fn seat(&mut self, i: u32) -> bool
-        requires { (world self.old).fell ≡ false }
-        ensures { T result → world self.new ≡ seated i (world self.old) };
+        requires { (Self.world self.old).fell ≡ false }
+        ensures { T result → Self.world self.new ≡ seated i (Self.world self.old) };
     // it has fallen, and begins anew
     fn renew(&mut self)
-        requires { (world self.old).fell ≡ true }
-        ensures { world self.new ≡ renewed (world self.old) };
+        requires { (Self.world self.old).fell ≡ true }
+        ensures { Self.world self.new ≡ renewed (Self.world self.old) };
 
     fn between(&mut self)
-        ensures { Between (world self.old) (world self.new) };
+        ensures { Between (Self.world self.old) (Self.world self.new) };
     // both had a turn
     fn round(&mut self)
-        ensures { world self.new ≡ rounded (world self.old) };
+        ensures { Self.world self.new ≡ rounded (Self.world self.old) };
 }
 
 mod acting;
@@ -104,7 +103,8 @@ mod sending;
 pub mod state;
 mod turning;
 
-use state::{Running, State};
+use state::Running;
+use state::State;
 
 // What a host knows while it stands. took, top, committed: copies of cells 0, 1 and 2, right while it's awake;
 // asked: the attempt of the last probe or commit that it has heard in this turn.
@@ -142,15 +142,14 @@ impl Node {
 
     // Reads its cells if it has just begun, hears what has come, does what is to be done by itself, and answers who asked.
     pub fn turn<P: Place>(&mut self, w: &mut P) -> Result<(), Down>
-        requires soon { 256 ≤ (world w.old).left }
-        requires up { (world w.old).fell ≡ false }
+        requires soon { 256 ≤ (P.world w.old).left }
+        requires up { (P.world w.old).fell ≡ false }
         requires rested { Rested self.old }
-        requires ready { Ready 64 [] self.old (world w.old) }
-        ensures only { is_ok result ≡ not (world w.new).fell }
+        requires ready { Ready 64 [] self.old (P.world w.old) }
+        ensures only { is_ok result ≡ not (P.world w.new).fell }
         ensures rested { OnOk result (Rested self.new) }
-        ensures is { OnOk result (Turned (world w.old) self.old self.new (world w.new)) }
-        ensures counts { Counts (world w.old) (is_ok result) (world w.new) }
-        ensures keeps { Keeps 64 [] self.old (world w.old) result (λ _. self.new) (world w.new) }
+        ensures is { OnOk result (Turned (P.world w.old) self.old self.new) }
+        ensures keeps { Keeps 64 [] self.old (P.world w.old) result (λ _. self.new) (P.world w.new) }
     {
         let left = self.wake(w)?;
         let left = self.hear(w, left)?;
@@ -169,7 +168,7 @@ pub fn node_is_small() -> bool
 // THE FIRST PROMISE. Whatever the guest writes, whatever the line does, whichever host falls, and however long the guest stands still:
 // `resume`, `stop` and `put` are only asked for when they may be.
 pub fn safe_nights<W: Place + AnySky>(w: &mut W, many: u64)
-    requires starts { AtStart (world w.old) }
+    requires starts { AtStart (W.world w.old) }
     requires few { many < 281474976710656 }
 {
     let mut a = Node::new(0, true);

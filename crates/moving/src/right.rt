@@ -1,8 +1,7 @@
 // The right to resume the guest here: a value that can't be copied, so it is used once. That it's made only when it may be is in `resume`'s contract.
-ghost use Rattle.std.specs.Prelude.{◌≡◌, ℕ, is_ok, IfOk, OnOk};
+ghost use Rattle.std.specs.Prelude.{◌≡◌, ℕ, is_ok, IfOk};
 ghost use Rattle.moving.specs.Hosts.{Does, MayStop, MayResume, kept, stopped, resumed};
 ghost use Rattle.moving.specs.Used.{Soon, Used};
-ghost use Rattle.moving.specs.Calm.{Offline, Still};
 
 use super::{Down, Place, asks};
 
@@ -14,11 +13,10 @@ pub struct Right {
 impl Right {
     // The guest is stopped here for an attempt.
     pub fn stop<P: Place>(w: &mut P, attempt: u64) -> Result<Right, Down>
-        requires soon { Soon 1 (world w.old) }
-        requires may { MayStop (world w.old) }
-        ensures used { Used 1 (world w.old) (is_ok result) (world w.new) }
-        ensures does { Does (world w.old) (stopped (world w.old)) (is_ok result) (world w.new) }
-        ensures line { OnOk result (Offline (world w.old) (world w.new)) }
+        requires soon { Soon 1 (P.world w.old) }
+        requires may { MayStop (P.world w.old) }
+        ensures used { Used 1 (P.world w.old) (is_ok result) (P.world w.new) }
+        ensures does { Does (P.world w.old) (stopped (P.world w.old)) (is_ok result) (P.world w.new) }
         ensures right { IfOk result (λ x. x.attempt ≡ attempt) }
     {
         asks::stop(w)?;
@@ -41,21 +39,19 @@ impl Right {
 
     // The attempt is committed: from then on there is no right here.
     pub fn commit<P: Place>(self, w: &mut P) -> Result<(), Down>
-        requires soon { Soon 1 (world w.old) }
-        ensures used { Used 1 (world w.old) (is_ok result) (world w.new) }
-        ensures does { Does (world w.old) (kept 2 self.attempt (world w.old)) (is_ok result) (world w.new) }
-        ensures line { OnOk result (Still (world w.old) (world w.new)) }
+        requires soon { Soon 1 (P.world w.old) }
+        ensures used { Used 1 (P.world w.old) (is_ok result) (P.world w.new) }
+        ensures does { Does (P.world w.old) (kept 2 self.attempt (P.world w.old)) (is_ok result) (P.world w.new) }
     {
         asks::keep(w, 2, self.attempt)
     }
 
     // The guest goes on here, and cell 0 says for which attempt.
     pub fn resume<P: Place>(self, w: &mut P) -> Result<(), Down>
-        requires soon { Soon 1 (world w.old) }
-        requires may { MayResume (world w.old) }
-        ensures used { Used 1 (world w.old) (is_ok result) (world w.new) }
-        ensures does { Does (world w.old) (resumed self.attempt (world w.old)) (is_ok result) (world w.new) }
-        ensures line { OnOk result (Still (world w.old) (world w.new)) }
+        requires soon { Soon 1 (P.world w.old) }
+        requires may { MayResume (P.world w.old) }
+        ensures used { Used 1 (P.world w.old) (is_ok result) (P.world w.new) }
+        ensures does { Does (P.world w.old) (resumed self.attempt (P.world w.old)) (is_ok result) (P.world w.new) }
     {
         asks::resume(w, self.attempt)
     }

@@ -2,9 +2,7 @@
 ghost use Rattle.std.specs.Prelude.{◌≡◌, ℕ, ◌+◌, ◌-◌, ◌*◌, ◌<◌, ◌≤◌, Bool, true, false, ◌||◌, List, [], is_ok, IfOk, Some, None, OnOk, nat_lt};
 ghost use Rattle.pageset.specs.Member.{member};
 ghost use Rattle.window.specs.Pages.{Sound};
-ghost use Rattle.letter.specs.Words.{head};
 ghost use Rattle.moving.specs.Used.{Soon, Used};
-ghost use Rattle.moving.specs.Calm.{Added, Rests, Passed, Asked, AskedTo, Went};
 ghost use Rattle.moving.specs.Hosts.{me};
 ghost use Rattle.moving.specs.Model.{ticked, anew, afresh, over};
 ghost use Rattle.moving.specs.Scan.{Below, Looked, Scanned, GoneOn, grows};
@@ -84,14 +82,13 @@ impl Transfer {
 
     // The page at a place of the window is sent, as it is now.
     fn send_page<P: Place>(&self, w: &mut P, place: u64) -> Result<(), Down>
-        requires soon { Soon 2 (world w.old) }
+        requires soon { Soon 2 (P.world w.old) }
         requires sound { Sound self.now.window }
         requires low { self.now.window.base ≤ place }
         requires high { place < end self.now }
-        requires inside { slot self.now (place - self.now.window.base) < (world w.old).pages }
-        ensures used { Used 2 (world w.old) (is_ok result) (world w.new) }
-        ensures line { OnOk result (Added (head Kind.Page self.now.attempt place (slot self.now (place - self.now.window.base))) (world w.old) (world w.new)) }
-        ensures keeps { Carried 0 self.now (world w.old) result self.now (world w.new) }
+        requires inside { slot self.now (place - self.now.window.base) < (P.world w.old).pages }
+        ensures used { Used 2 (P.world w.old) (is_ok result) (P.world w.new) }
+        ensures keeps { Carried 0 self.now (P.world w.old) result self.now (P.world w.new) }
     {
         let page = self.window.page_at(place);
         let mut words = [0u64; 64];
@@ -108,19 +105,17 @@ impl Transfer {
 
     // Looks at the page at the cursor, and sends it if it was written since it was last asked for or was never sent: how many were sent.
     fn look<P: Place>(&mut self, w: &mut P) -> Result<u32, Down>
-        requires soon { Soon 3 (world w.old) }
+        requires soon { Soon 3 (P.world w.old) }
         requires sound { Sound self.old.window }
         requires room { self.old.window.len < 62 }
-        requires more { self.old.cursor < (world w.old).pages }
+        requires more { self.old.cursor < (P.world w.old).pages }
         requires below { Below self.old }
-        requires ready { Carrying 1 self.old (world w.old) }
-        ensures used { Used 3 (world w.old) (is_ok result) (world w.new) }
-        ensures one { IfOk result (λ k. (k ≤ 1) × ((world w.old).left ≤ (world w.new).left + 1 + 2 * k) × (self.new.window.len ≡ self.old.window.len + k)) }
-        ensures is { OnOk result (Looked ((me (world w.old)).touched self.old.cursor) self.old self.new) }
-        ensures line { OnOk result (Passed self.old (world w.old) self.new (world w.new)) }
-        ensures asked { OnOk result (Asked self.old (world w.old) → Asked self.new (world w.new)) }
+        requires ready { Carrying 1 self.old (P.world w.old) }
+        ensures used { Used 3 (P.world w.old) (is_ok result) (P.world w.new) }
+        ensures one { IfOk result (λ k. (k ≤ 1) × ((P.world w.old).left ≤ (P.world w.new).left + 1 + 2 * k) × (self.new.window.len ≡ self.old.window.len + k)) }
+        ensures is { OnOk result (Looked ((me (P.world w.old)).touched self.old.cursor) self.old self.new) }
         ensures sound { OnOk result (Sound self.new.window × Below self.new) }
-        ensures keeps { Carried (grows result) self.old (world w.old) result self.new (world w.new) }
+        ensures keeps { Carried (grows result) self.old (P.world w.old) result self.new (P.world w.new) }
     {
         let p = self.cursor;
         let touched = asks::touched(w, p)?;
@@ -138,16 +133,14 @@ impl Transfer {
 
     // Goes on with the pass, with so many asks at most.
     fn scan<P: Place>(&mut self, w: &mut P, most: u32) -> Result<(), Down>
-        requires soon { Soon most (world w.old) }
+        requires soon { Soon most (P.world w.old) }
         requires sound { Sound self.old.window }
         requires none { self.old.window.len ≡ 0 }
-        requires ready { Carrying 62 self.old (world w.old) }
-        ensures used { Used most (world w.old) (is_ok result) (world w.new) }
-        ensures is { OnOk result (Scanned (world w.old).pages most self.old self.new) }
-        ensures line { OnOk result (Passed self.old (world w.old) self.new (world w.new)) }
-        ensures asked { OnOk result (Asked self.old (world w.old) → Asked self.new (world w.new)) }
+        requires ready { Carrying 62 self.old (P.world w.old) }
+        ensures used { Used most (P.world w.old) (is_ok result) (P.world w.new) }
+        ensures is { OnOk result (Scanned (P.world w.old).pages most self.old self.new) }
         ensures sound { OnOk result (Sound self.new.window) }
-        ensures keeps { Carried 62 self.old (world w.old) result self.new (world w.new) }
+        ensures keeps { Carried 62 self.old (P.world w.old) result self.new (P.world w.new) }
     {
         let pages = w.pages();
         let mut left = most;
@@ -160,13 +153,11 @@ impl Transfer {
 
     // Sends again all that is on its way.
     fn resend<P: Place>(&self, w: &mut P) -> Result<(), Down>
-        requires soon { Soon (2 * self.now.window.len) (world w.old) }
+        requires soon { Soon (2 * self.now.window.len) (P.world w.old) }
         requires sound { Sound self.now.window }
-        requires ready { Carrying 0 self.now (world w.old) }
-        ensures used { Used (2 * self.now.window.len) (world w.old) (is_ok result) (world w.new) }
-        ensures line { OnOk result (Passed self.now (world w.old) self.now (world w.new)) }
-        ensures asked { OnOk result (AskedTo 0 self.now (world w.old) → Asked self.now (world w.new)) }
-        ensures keeps { Carried 0 self.now (world w.old) result self.now (world w.new) }
+        requires ready { Carrying 0 self.now (P.world w.old) }
+        ensures used { Used (2 * self.now.window.len) (P.world w.old) (is_ok result) (P.world w.new) }
+        ensures keeps { Carried 0 self.now (P.world w.old) result self.now (P.world w.new) }
     {
         let base = self.window.base();
         for i in 0..self.window.len() {
@@ -177,15 +168,14 @@ impl Transfer {
 
     // Tells the other host of the attempt; then sends again what is on its way or, if nothing is, goes on with the pass.
     pub fn go_on<P: Place>(&mut self, w: &mut P, most: u32) -> Result<(), Down>
-        requires soon { Soon most (world w.old) }
+        requires soon { Soon most (P.world w.old) }
         requires enough { 1 + 2 * self.old.window.len ≤ most }
         requires sound { Sound self.old.window }
-        requires ready { Carrying 62 self.old (world w.old) }
-        ensures used { Used most (world w.old) (is_ok result) (world w.new) }
-        ensures is { OnOk result (GoneOn (world w.old).pages most self.old self.new) }
-        ensures line { OnOk result (Went self.old (world w.old) self.new (world w.new) × Rests (world w.old) (world w.new)) }
+        requires ready { Carrying 62 self.old (P.world w.old) }
+        ensures used { Used most (P.world w.old) (is_ok result) (P.world w.new) }
+        ensures is { OnOk result (GoneOn (P.world w.old).pages most self.old self.new) }
         ensures sound { OnOk result (Sound self.new.window) }
-        ensures keeps { Carried 62 self.old (world w.old) result self.new (world w.new) }
+        ensures keeps { Carried 62 self.old (P.world w.old) result self.new (P.world w.new) }
     {
         asks::tell(w, Kind::Probe, self.attempt, 0)?;
         if !self.window.is_empty() {

@@ -1,4 +1,6 @@
 // A set of page numbers below 4,096: an array of words, a bit for each page.
+#![tactic(auto)]
+
 ghost use Rattle.std.specs.Prelude.{◌≡◌, ℕ, ◌<◌, ◌≤◌, false, not, ◌&&◌, ◌||◌, T, ◌==◌, nat_lt};
 ghost use Rattle.pageset.specs.Member.{member};
 ghost use Rattle.pageset.specs.Count.{count};

@@ -1,4 +1,6 @@
 // Two hosts in memory and the guest that runs on one of them or on none: each thing that can be done to them, and nothing done unasked.
+#![tactic(auto)]
+
 ghost use Rattle.std.specs.Prelude.{◌≡◌, ℕ, ◌+◌, ◌-◌, ◌%◌, ◌<◌, ◌≤◌, min, Bool, true, false, ltb, List, [], length, if◌then◌else◌, nat_lt, slice_index_or};
 ghost use mathlib.Core.List.{Memᴰ};
 ghost use Rattle.moving.specs.Hosts.{World, kept, heard, put_page, untouched, stopped, resumed, counted, AtStart, InTime, wrote, me, other, seated, renewed, roughened};

@@ -1,5 +1,7 @@
 // What happens beside what the hosts ask for: falls, letters that are lost, kept, repeated and mixed up, what the guest writes, and the wish that it be moved.
 // A plan says it: counts that its owner sets between rounds, and for random play a generator, whose word decides what comes with the next ask.
+#![tactic(auto)]
+
 ghost use Rattle.std.specs.Prelude.{◌≡◌, ℕ, ◌+◌, ◌-◌, ◌*◌, ◌/◌, ◌%◌, ◌<◌, ◌≤◌, Bool, true, false, cond};
 ghost use Rattle.plan.specs.Plans.{stepped, drawn_word, chance, falls_by, mix_by, hand_by, fate_of, asked, post_of, posted, hand_of, handed, wreck_of, write_of, wish_of, wished, page_by, writes_of, wrote, calm};
 

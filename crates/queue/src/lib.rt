@@ -1,4 +1,6 @@
 // A queue of letters, 72 words each, in memory that is lent to it.
+#![tactic(auto)]
+
 ghost use Rattle.std.specs.Prelude.{◌≡◌, ℕ, ◌+◌, ◌<◌, ◌≤◌, Bool, true, false, cond, List, [], ◌∷◌, ◌++◌, length, take, drop, nat_lt, slice_index_or, slice_set};
 ghost use Rattle.moving.specs.Hosts.{head_is, rest'};
 ghost use Rattle.queue.specs.Queues.{letters_of, room_of, Pushed};

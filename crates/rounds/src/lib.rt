@@ -1,4 +1,6 @@
 // Rounds over two hosts in memory: a turn of each node, as the nights have it, one round at a time.
+#![tactic(auto)]
+
 ghost use Rattle.std.specs.Prelude.{◌≡◌, ℕ, ◌+◌, ◌<◌, ◌≤◌, true, false};
 ghost use Rattle.moving.specs.Hosts.{AtStart};
 ghost use Rattle.hosts.specs.Follows.{world_of};

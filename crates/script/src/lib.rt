@@ -1,4 +1,6 @@
 // Reads the lines of a play script into commands.
+#![tactic(auto)]
+
 mod lines;
 mod reading;
 mod words;

@@ -1,4 +1,6 @@
 // One host in memory that is lent to it: its pages, cells and letters.
+#![tactic(auto)]
+
 ghost use Rattle.std.specs.Prelude.{◌≡◌, ℕ, ◌+◌, ◌-◌, ◌%◌, ◌<◌, ◌≤◌, min, Bool, true, false, cond, List, [], ◌∷◌, length, replicate, ◌==◌, nat_lt, slice_index_or, slice_set};
 ghost use mathlib.Core.List.{Memᴰ};
 ghost use Rattle.queue.specs.Queues.{letters_of, room_of};

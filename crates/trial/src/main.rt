@@ -1,5 +1,7 @@
 // Moves guests of several sizes while nobody falls and no letter is lost, and prints how many rounds each took, and for how many of them
 // the guest stood still: once with a guest that writes nothing, and once with one that writes 16 times a round.
+#![tactic(auto)]
+
 ghost use Rattle.moving.specs.Hosts.{AtStart};
 ghost use Rattle.hosts.specs.Follows.{world_of};
 ghost use Rattle.rounds.specs.Plays.{Playing};

@@ -1,5 +1,7 @@
 // The window of a transfer: the pages that were sent and are not acknowledged yet.
 // Each page that is sent has the next place, 0, 1, 2, ..; a window holds the pages at the places base to base + len - 1.
+#![tactic(auto)]
+
 ghost use Rattle.std.specs.Prelude.{◌≡◌, ℕ, ◌+◌, ◌-◌, ◌^◌, ◌<◌, ◌≤◌, [], ◌∷◌, ◌++◌, length, drop, ◌==◌};
 ghost use Rattle.window.specs.Pages.{most, Sound, pages_of, slot, pushed, dropped};
 

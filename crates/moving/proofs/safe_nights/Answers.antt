@@ -6,7 +6,7 @@ use Rattle.moving.proofs.Falls.{between_fell}
 use Rattle.moving.proofs.Steps.{between_whole, start_whole, holds}
 use Rattle.moving.proofs.Rounds.{Stands, seat, begins, ended, anew, fresh_rested, next, round}
 use Rattle.moving.proofs.safe_nights.Goals as goal
-use Rattle.moving.proofs.safe_nights.Goals.{in-Err, in-default, in-Err-turn, in-default-turn}
+use Rattle.moving.proofs.safe_nights.Goals.{in-Err, in_default, in-Err-turn, in_default-turn}
 
 pub loop-n-init : goal.loop-n-init
 loop-n-init g c =
@@ -35,7 +35,7 @@ seat-requires-in-loop-n g c =
     let x : Stands 0 (128 * c.loop-n.n + 64) c.match-turn.a c.loop-n.b (g.W.Place.world c.match-turn.w) =
     elim c.match-turn.branch [
       | in-Err w ↦ anew (w.in-Err.ensures.keeps.whole 0 (128 * c.loop-n.n) c.loop-n.b (seat (g.W.Place.world c.between.new.self) e h)) w.renew.ensures w.a-is w.new-a-in-Err.ensures (ap g.W.Place.world w.w-is)
-      | in-default w ↦ ended w.in-default.ensures.only w.in-default.ensures.rested (w.in-default.ensures.keeps.whole 0 (128 * c.loop-n.n) c.loop-n.b (seat (g.W.Place.world c.between.new.self) e h)) w.a-is (ap g.W.Place.world w.w-is)
+      | in_default w ↦ ended w.in_default.ensures.only w.in_default.ensures.rested (w.in_default.ensures.keeps.whole 0 (128 * c.loop-n.n) c.loop-n.b (seat (g.W.Place.world c.between.new.self) e h)) w.a-is (ap g.W.Place.world w.w-is)
     ] in
     x.up
 
@@ -46,7 +46,7 @@ turn-requires-in-loop-n g c =
     let x : Stands 0 (128 * c.loop-n.n + 64) c.match-turn.a c.loop-n.b (g.W.Place.world c.match-turn.w) =
     elim c.match-turn.branch [
       | in-Err w ↦ anew (w.in-Err.ensures.keeps.whole 0 (128 * c.loop-n.n) c.loop-n.b (seat (g.W.Place.world c.between.new.self) e h)) w.renew.ensures w.a-is w.new-a-in-Err.ensures (ap g.W.Place.world w.w-is)
-      | in-default w ↦ ended w.in-default.ensures.only w.in-default.ensures.rested (w.in-default.ensures.keeps.whole 0 (128 * c.loop-n.n) c.loop-n.b (seat (g.W.Place.world c.between.new.self) e h)) w.a-is (ap g.W.Place.world w.w-is)
+      | in_default w ↦ ended w.in_default.ensures.only w.in_default.ensures.rested (w.in_default.ensures.keeps.whole 0 (128 * c.loop-n.n) c.loop-n.b (seat (g.W.Place.world c.between.new.self) e h)) w.a-is (ap g.W.Place.world w.w-is)
     ] in
     let f = c.seat-in-loop-n.ensures (holds c.if-not-seat-2.false) in
     begins (g.W.Place.world c.match-turn.w) (omega arith) f c.loop-n.invariant.one (next x.whole)
@@ -58,14 +58,14 @@ loop-n-preserved g c =
     let x : Stands 0 (128 * c.loop-n.n + 64) c.match-turn.a c.loop-n.b (g.W.Place.world c.match-turn.w) =
     elim c.match-turn.branch [
       | in-Err w ↦ anew (w.in-Err.ensures.keeps.whole 0 (128 * c.loop-n.n) c.loop-n.b (seat (g.W.Place.world c.between.new.self) e h)) w.renew.ensures w.a-is w.new-a-in-Err.ensures (ap g.W.Place.world w.w-is)
-      | in-default w ↦ ended w.in-default.ensures.only w.in-default.ensures.rested (w.in-default.ensures.keeps.whole 0 (128 * c.loop-n.n) c.loop-n.b (seat (g.W.Place.world c.between.new.self) e h)) w.a-is (ap g.W.Place.world w.w-is)
+      | in_default w ↦ ended w.in_default.ensures.only w.in_default.ensures.rested (w.in_default.ensures.keeps.whole 0 (128 * c.loop-n.n) c.loop-n.b (seat (g.W.Place.world c.between.new.self) e h)) w.a-is (ap g.W.Place.world w.w-is)
     ] in
     let f = c.seat-in-loop-n.ensures (holds c.if-not-seat-2.false) in
     let k = seat (g.W.Place.world c.match-turn.w) f (next x.whole) in
     let y : Stands 1 (128 * c.loop-n.n + 64 + 64) c.match-turn-2.b c.match-turn.a (g.W.Place.world c.match-turn-2.w) =
     elim c.match-turn-2.branch [
       | in-Err-turn w ↦ anew (w.in-Err-turn.ensures.keeps.whole 1 (128 * c.loop-n.n + 64) c.match-turn.a k) w.renew-in-Err-turn.ensures w.b-is w.new-b-in-Err-turn.ensures (ap g.W.Place.world w.w-is)
-      | in-default-turn w ↦ ended w.in-default-turn.ensures.only w.in-default-turn.ensures.rested (w.in-default-turn.ensures.keeps.whole 1 (128 * c.loop-n.n + 64) c.match-turn.a k) w.b-is (ap g.W.Place.world w.w-is)
+      | in_default-turn w ↦ ended w.in_default-turn.ensures.only w.in_default-turn.ensures.rested (w.in_default-turn.ensures.keeps.whole 1 (128 * c.loop-n.n + 64) c.match-turn.a k) w.b-is (ap g.W.Place.world w.w-is)
     ] in
     let z = round (128 * (c.loop-n.n + 1)) (omega arith) c.round.ensures y in
     record { up = z.up; zero = x.rested; one = y.rested; whole = z.whole }

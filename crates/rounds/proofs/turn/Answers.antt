@@ -5,18 +5,18 @@ use Rattle.moving.proofs.Steps.{holds}
 use Rattle.moving.proofs.Rounds.{seat, begins, ended, anew}
 use Rattle.rounds.proofs.turn.Goals as goal
 
-pub returns-then-not-sky-seat : goal.returns-then-not-sky-seat
-returns-then-not-sky-seat c = absurd (false≢true (sym c.if-not-sky-seat.true ∙ c.sky-seat.ensures.two ∙ lt-ltb c.args.i 2 c.requires.two))
+pub returns-then-not-sky_seat : goal.returns-then-not-sky_seat
+returns-then-not-sky_seat c = absurd (false≢true (sym c.if-not-sky_seat.true ∙ c.sky_seat.ensures.two ∙ lt-ltb c.args.i 2 c.requires.two))
 
 pub turn-requires : goal.turn-requires
 turn-requires c =
     let b = c.requires.begins in
-    begins (world_of c.args.hosts.now) b.room (c.sky-seat.ensures.seated (holds c.if-not-sky-seat.false)) b.rested b.whole
+    begins (world_of c.args.hosts.now) b.room (c.sky_seat.ensures.seated (holds c.if-not-sky_seat.false)) b.rested b.whole
 
 pub returns-in-Err : goal.returns-in-Err
 returns-in-Err c =
     let b = c.requires.begins in
-    let e = c.sky-seat.ensures.seated (holds c.if-not-sky-seat.false) in
+    let e = c.sky_seat.ensures.seated (holds c.if-not-sky_seat.false) in
     let s = anew (c.in-Err.ensures.keeps.whole c.args.i b.m b.o (seat (world_of c.args.hosts.now) e b.whole)) c.renew.ensures refl c.new.ensures refl in
     record {
       up = s.up;
@@ -24,11 +24,11 @@ returns-in-Err c =
       whole = λ m o h. (anew (c.in-Err.ensures.keeps.whole c.args.i m o (seat (world_of c.args.hosts.now) e h)) c.renew.ensures refl c.new.ensures refl).whole;
     }
 
-pub returns-in-default : goal.returns-in-default
-returns-in-default c =
+pub returns-in_default : goal.returns-in_default
+returns-in_default c =
     let b = c.requires.begins in
-    let e = c.sky-seat.ensures.seated (holds c.if-not-sky-seat.false) in
-    let t = c.in-default.ensures in
+    let e = c.sky_seat.ensures.seated (holds c.if-not-sky_seat.false) in
+    let t = c.in_default.ensures in
     let s = ended t.only t.rested (t.keeps.whole c.args.i b.m b.o (seat (world_of c.args.hosts.now) e b.whole)) refl refl in
     record {
       up = s.up;

@@ -8,17 +8,17 @@ use Rattle.side.proofs.remember.Goals as goal
 pub returns-then-len-ge128 : goal.returns-then-len-ge128
 returns-then-len-ge128 c =
     let q = c.args.kept.now in
-    let m = c.drop-first.new.self in
+    let m = c.drop_first.new.self in
     let l = c.args.letter.now in
     let p = c.push-taken.ensures in
-    let e = c.drop-first.ensures.rest in
+    let e = c.drop_first.ensures.rest in
     record {
       among = among_push c.push-taken.result (letters_of q) (letters_of m) _ l (subst (λ ys. Among ys (letters_of q)) (sym e) (rest_among (letters_of q))) p.letters;
-      room = p.room ∙ c.drop-first.ensures.room;
+      room = p.room ∙ c.drop_first.ensures.room;
       is = λ big.
           let fit : length (letters_of q) ≤ room_of q = letters_fit q in
           let short : length (letters_of m) ≡ length (letters_of q) - 1 = ap length e ∙ rest_length (letters_of q) in
-          let t : c.push-taken.result ≡ true = p.takes (omega (arith, c.drop-first.ensures.room)) in
+          let t : c.push-taken.result ≡ true = p.takes (omega (arith, c.drop_first.ensures.room)) in
           p.letters ∙ ap (λ b. cond b (letters_of m ++ l ∷ []) (letters_of m)) t ∙ ap (λ ys. ys ++ l ∷ []) e ∙ sym (remembered_full (letters_of q) l (omega arith));
     }
 

@@ -14,5 +14,5 @@ returns c =
     λ h d up f e.
     let n = c.count.ensures ∙ ap (λ w. w.pages) e in
     stands _ up (f ∙ cond-false c.args.due _ _ c.if-due.false)
-    (c.fill.ensures.world ∙ ap (fills c.write-on-write.result) e ∙ ap (λ x. fills x (counted d)) (c.write-on-write.ensures ∙ ap (write_of c.args.self.now.plan) n))
+    (c.fill.ensures.world ∙ ap (fills c.write_on-write.result) e ∙ ap (λ x. fills x (counted d)) (c.write_on-write.ensures ∙ ap (write_of c.args.self.now.plan) n))
     c.fill.ensures.same.0 c.fill.ensures.same.1

@@ -13,13 +13,13 @@ returns c =
     let wished = c.wish.ensures.world ∙ ap (λ b. wishes b w) c.want-wants.ensures.wish in
     let plan = c.wish.ensures.same.0 ∙ c.want-wants.ensures.left in
     let count = c.count.ensures ∙ ap (λ v. v.pages) wished ∙ wishes_pages (wish_of h.plan) w in
-    let write = c.write-between-write.ensures.write ∙ ap (λ p. writes_of p c.count.result) plan ∙ ap (writes_of (plans.wished h.plan)) count in
-    let world = c.fill.ensures.world ∙ ap (fills c.write-between-write.result) wished ∙ ap (λ x. fills x (wishes (wish_of h.plan) w)) write in
+    let write = c.write_between-write.ensures.write ∙ ap (λ p. writes_of p c.count.result) plan ∙ ap (writes_of (plans.wished h.plan)) count in
+    let world = c.fill.ensures.world ∙ ap (fills c.write_between-write.result) wished ∙ ap (λ x. fills x (wishes (wish_of h.plan) w)) write in
     record {
       between = subst (Between w) (sym world) (between_of (writes_of (plans.wished h.plan) w.pages) (wish_of h.plan) w);
       planned = record {
         world = world;
-        plan = c.fill.ensures.same.0 ∙ c.write-between-write.ensures.left ∙ ap plans.wrote plan;
+        plan = c.fill.ensures.same.0 ∙ c.write_between-write.ensures.left ∙ ap plans.wrote plan;
         story = c.fill.ensures.same.1 ∙ c.wish.ensures.same.1;
       };
     }

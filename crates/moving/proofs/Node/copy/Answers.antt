@@ -7,15 +7,13 @@ use Rattle.moving.specs.declared.state.State.TheVariants.{Copying, Paused}
 use Rattle.moving.specs.Model.{on_state, ticked, anew}
 use Rattle.moving.specs.Scan.{GoneOn}
 use Rattle.moving.specs.Acted.{on, again, stops}
-use Rattle.moving.specs.Calm.{Went}
-use Rattle.moving.proofs.Passes.{went_after}
 use Rattle.moving.proofs.Ways as ways
 use Rattle.moving.proofs.Ways.{unmade, begin, fine, then_ok, then_call, ends_ok, ends_err, ends_call}
 use Rattle.moving.proofs.Acts.{ticks, ticks_anew, gone_attempt, stop_anew}
 use Rattle.moving.proofs.Node.copy.Goals as goal
 
-pub go-on-requires : goal.go-on-requires
-go-on-requires g c =
+pub go_on-requires : goal.go_on-requires
+go_on-requires g c =
     let n = c.args.self.now in
     let y = c.tick-y.result in
     let e : y ≡ ticked c.args.x = c.tick-y.ensures in
@@ -27,33 +25,33 @@ go-on-requires g c =
       ready = record { n = on_state (Copying y) n; has = refl; ready = ways.ready c.requires.ready (omega arith) (ticks n c.args.x y e c.requires.soon.up) };
     }
 
-pub returns-in-err-go-on : goal.returns-in-err-go-on
-returns-in-err-go-on g c =
+pub returns-in_err-go_on : goal.returns-in_err-go_on
+returns-in_err-go_on g c =
     let n = c.args.self.now in
     let y = c.tick-y.result in
-    let e = c.from-residual.ensures.0 in
+    let e = c.from_residual.ensures.0 in
     record {
       used = search rules;
       tidy = unmade _ _ e;
       awake = unmade _ _ e;
       is = unmade _ _ e;
-      keeps = ends_call 62 _ c.from-residual.result e (ticks n c.args.x y c.tick-y.ensures c.requires.soon.up) (c.in-err-go-on.ensures.keeps (on_state (Copying y) n) refl) (omega arith);
+      keeps = ends_call 62 _ c.from_residual.result e (ticks n c.args.x y c.tick-y.ensures c.requires.soon.up) (c.in_err-go_on.ensures.keeps (on_state (Copying y) n) refl) (omega arith);
     }
 
-pub returns-then-not-is-over : goal.returns-then-not-is-over
-returns-then-not-is-over g c =
+pub returns-then-not-is_over : goal.returns-then-not-is_over
+returns-then-not-is_over g c =
     let n = c.args.self.now in
     let y = c.tick-y.result in
     record {
       used = search rules;
-      tidy = record { windowed = c.in-ok-go-on.ensures.sound; asked = c.requires.tidy.asked };
+      tidy = record { windowed = c.in_ok-go_on.ensures.sound; asked = c.requires.tidy.asked };
       awake = c.requires.awake;
-      is = on (search rules) (record { after = c.go-on.new.self; goes = subst (λ d. GoneOn (g.P.Place.world c.args.w.now).pages c.args.most d c.go-on.new.self) c.tick-y.ensures c.in-ok-go-on.ensures.is; went = subst (λ d. Went d (g.P.Place.world c.args.w.now) c.go-on.new.self (g.P.Place.world c.go-on.new.w)) c.tick-y.ensures c.in-ok-go-on.ensures.line.0; node = refl });
-      keeps = ends_ok 62 (omega arith) (then_call (ticks n c.args.x y c.tick-y.ensures c.requires.soon.up) c.in-ok-go-on.ensures.used.fell (c.in-ok-go-on.ensures.keeps (on_state (Copying y) n) refl));
+      is = on (search rules) (record { after = c.go_on.new.self; goes = subst (λ d. GoneOn (g.P.Place.world c.args.w.now).pages c.args.most d c.go_on.new.self) c.tick-y.ensures c.in_ok-go_on.ensures.is; node = refl });
+      keeps = ends_ok 62 (omega arith) (then_call (ticks n c.args.x y c.tick-y.ensures c.requires.soon.up) c.in_ok-go_on.ensures.used.fell (c.in_ok-go_on.ensures.keeps (on_state (Copying y) n) refl));
     }
 
-pub go-on-requires-then-y-gt-LONG-PASS : goal.go-on-requires-then-y-gt-LONG-PASS
-go-on-requires-then-y-gt-LONG-PASS g c =
+pub go_on-requires-then-y-gt-LONG_PASS : goal.go_on-requires-then-y-gt-LONG_PASS
+go_on-requires-then-y-gt-LONG_PASS g c =
     let n = c.args.self.now in
     let y = c.tick-y-2.result in
     let e : y ≡ ticked (anew c.args.x) = c.tick-y-2.ensures ∙ ap ticked c.anew.ensures in
@@ -65,83 +63,82 @@ go-on-requires-then-y-gt-LONG-PASS g c =
       ready = record { n = on_state (Copying y) n; has = refl; ready = ways.ready c.requires.ready (omega arith) (ticks_anew n c.args.x y e c.requires.soon.up) };
     }
 
-pub returns-in-err-go-on-2 : goal.returns-in-err-go-on-2
-returns-in-err-go-on-2 g c =
+pub returns-in_err-go_on-2 : goal.returns-in_err-go_on-2
+returns-in_err-go_on-2 g c =
     let n = c.args.self.now in
     let y = c.tick-y-2.result in
-    let e = c.from-residual-in-err-go-on-2.ensures.0 in
+    let e = c.from_residual-in_err-go_on-2.ensures.0 in
     record {
       used = search rules;
       tidy = unmade _ _ e;
       awake = unmade _ _ e;
       is = unmade _ _ e;
-      keeps = ends_call 62 _ c.from-residual-in-err-go-on-2.result e (ticks_anew n c.args.x y (c.tick-y-2.ensures ∙ ap ticked c.anew.ensures) c.requires.soon.up) (c.in-err-go-on-2.ensures.keeps (on_state (Copying y) n) refl) (omega arith);
+      keeps = ends_call 62 _ c.from_residual-in_err-go_on-2.result e (ticks_anew n c.args.x y (c.tick-y-2.ensures ∙ ap ticked c.anew.ensures) c.requires.soon.up) (c.in_err-go_on-2.ensures.keeps (on_state (Copying y) n) refl) (omega arith);
     }
 
-pub returns-then-y-gt-LONG-PASS : goal.returns-then-y-gt-LONG-PASS
-returns-then-y-gt-LONG-PASS g c =
+pub returns-then-y-gt-LONG_PASS : goal.returns-then-y-gt-LONG_PASS
+returns-then-y-gt-LONG_PASS g c =
     let n = c.args.self.now in
     let y = c.tick-y-2.result in
     record {
       used = search rules;
-      tidy = record { windowed = c.in-ok-go-on-2.ensures.sound; asked = c.requires.tidy.asked };
+      tidy = record { windowed = c.in_ok-go_on-2.ensures.sound; asked = c.requires.tidy.asked };
       awake = c.requires.awake;
-      is = again (search rules) (search rules) (record { after = c.go-on-then-y-gt-LONG-PASS.new.self; goes = subst (λ d. GoneOn (g.P.Place.world c.args.w.now).pages c.args.most d c.go-on-then-y-gt-LONG-PASS.new.self) (c.tick-y-2.ensures ∙ ap ticked c.anew.ensures) c.in-ok-go-on-2.ensures.is; went = subst (λ d. Went d (g.P.Place.world c.args.w.now) c.go-on-then-y-gt-LONG-PASS.new.self (g.P.Place.world c.go-on-then-y-gt-LONG-PASS.new.w)) (c.tick-y-2.ensures ∙ ap ticked c.anew.ensures) c.in-ok-go-on-2.ensures.line.0; node = refl });
-      keeps = ends_ok 62 (omega arith) (then_call (ticks_anew n c.args.x y (c.tick-y-2.ensures ∙ ap ticked c.anew.ensures) c.requires.soon.up) c.in-ok-go-on-2.ensures.used.fell (c.in-ok-go-on-2.ensures.keeps (on_state (Copying y) n) refl));
+      is = again (search rules) (search rules) (record { after = c.go_on-then-y-gt-LONG_PASS.new.self; goes = subst (λ d. GoneOn (g.P.Place.world c.args.w.now).pages c.args.most d c.go_on-then-y-gt-LONG_PASS.new.self) (c.tick-y-2.ensures ∙ ap ticked c.anew.ensures) c.in_ok-go_on-2.ensures.is; node = refl });
+      keeps = ends_ok 62 (omega arith) (then_call (ticks_anew n c.args.x y (c.tick-y-2.ensures ∙ ap ticked c.anew.ensures) c.requires.soon.up) c.in_ok-go_on-2.ensures.used.fell (c.in_ok-go_on-2.ensures.keeps (on_state (Copying y) n) refl));
     }
 
-pub returns-in-err-right : goal.returns-in-err-right
-returns-in-err-right g c =
+pub returns-in_err-right : goal.returns-in_err-right
+returns-in_err-right g c =
     let n = c.args.self.now in
     let y = c.tick-y-2.result in
     let z : Pause = record { transfer = y; right = record { attempt = y.attempt }; turns = 1 } in
-    let e = c.from-residual-in-err-right.ensures.0 in
+    let e = c.from_residual-in_err-right.ensures.0 in
     record {
       used = search rules;
       tidy = unmade _ _ e;
       awake = unmade _ _ e;
       is = unmade _ _ e;
-      keeps = ends_err 62 0 _ c.from-residual-in-err-right.result e (omega arith) (begin [] (on_state (Copying c.args.x) n) (g.P.Place.world c.args.w.now) c.requires.soon.up) c.in-err-right.ensures.does (fine (λ i m o h. stop_anew n c.args.x z (c.tick-y-2.ensures ∙ ap ticked c.anew.ensures) h));
+      keeps = ends_err 62 0 _ c.from_residual-in_err-right.result e (omega arith) (begin [] (on_state (Copying c.args.x) n) (g.P.Place.world c.args.w.now) c.requires.soon.up) c.in_err-right.ensures.does (fine (λ i m o h. stop_anew n c.args.x z (c.tick-y-2.ensures ∙ ap ticked c.anew.ensures) h));
     }
 
-pub go-on-requires-2 : goal.go-on-requires-2
-go-on-requires-2 g c =
+pub go_on-requires-2 : goal.go_on-requires-2
+go_on-requires-2 g c =
     let n = c.args.self.now in
     let y = c.tick-y-2.result in
-    let z : Pause = record { transfer = y; right = c.in-ok-right.right; turns = 1 } in
+    let z : Pause = record { transfer = y; right = c.in_ok-right.right; turns = 1 } in
     let e : y ≡ ticked (anew c.args.x) = c.tick-y-2.ensures ∙ ap ticked c.anew.ensures in
     let l = ap (λ (d : Transfer). d.window.len) e in
     record {
       soon = search rules;
       enough = omega arith;
       sound = subst⁻¹ (λ (d : Transfer). Sound d.window) e c.requires.tidy.windowed;
-      ready = record { n = on_state (Paused z) n; has = refl; ready = ways.ready c.requires.ready (omega arith) (then_ok 0 (begin [] (on_state (Copying c.args.x) n) (g.P.Place.world c.args.w.now) c.requires.soon.up) c.in-ok-right.ensures.does refl (fine (λ i m o h. stop_anew n c.args.x z e h))) };
+      ready = record { n = on_state (Paused z) n; has = refl; ready = ways.ready c.requires.ready (omega arith) (then_ok 0 (begin [] (on_state (Copying c.args.x) n) (g.P.Place.world c.args.w.now) c.requires.soon.up) c.in_ok-right.ensures.does refl (fine (λ i m o h. stop_anew n c.args.x z e h))) };
     }
 
-pub returns-in-err-go-on-3 : goal.returns-in-err-go-on-3
-returns-in-err-go-on-3 g c =
+pub returns-in_err-go_on-3 : goal.returns-in_err-go_on-3
+returns-in_err-go_on-3 g c =
     let n = c.args.self.now in
     let y = c.tick-y-2.result in
-    let z : Pause = record { transfer = y; right = c.in-ok-right.right; turns = 1 } in
-    let e = c.from-residual-in-err-go-on-3.ensures.0 in
+    let z : Pause = record { transfer = y; right = c.in_ok-right.right; turns = 1 } in
+    let e = c.from_residual-in_err-go_on-3.ensures.0 in
     record {
       used = search rules;
       tidy = unmade _ _ e;
       awake = unmade _ _ e;
       is = unmade _ _ e;
-      keeps = ends_call 62 _ c.from-residual-in-err-go-on-3.result e (then_ok 0 (begin [] (on_state (Copying c.args.x) n) (g.P.Place.world c.args.w.now) c.requires.soon.up) c.in-ok-right.ensures.does refl (fine (λ i m o h. stop_anew n c.args.x z (c.tick-y-2.ensures ∙ ap ticked c.anew.ensures) h))) (c.in-err-go-on-3.ensures.keeps (on_state (Paused z) n) refl) (omega arith);
+      keeps = ends_call 62 _ c.from_residual-in_err-go_on-3.result e (then_ok 0 (begin [] (on_state (Copying c.args.x) n) (g.P.Place.world c.args.w.now) c.requires.soon.up) c.in_ok-right.ensures.does refl (fine (λ i m o h. stop_anew n c.args.x z (c.tick-y-2.ensures ∙ ap ticked c.anew.ensures) h))) (c.in_err-go_on-3.ensures.keeps (on_state (Paused z) n) refl) (omega arith);
     }
 
 pub returns : goal.returns
 returns g c =
     let n = c.args.self.now in
     let y = c.tick-y-2.result in
-    let k = c.in-ok-right.ensures in
-    let z : Pause = record { transfer = y; right = c.in-ok-right.right; turns = 1 } in
+    let z : Pause = record { transfer = y; right = c.in_ok-right.right; turns = 1 } in
     record {
       used = search rules;
-      tidy = record { windowed = (c.in-ok-go-on-3.ensures.sound, c.in-ok-right.ensures.right ∙ sym (gone_attempt c.in-ok-go-on-3.ensures.is)); asked = c.requires.tidy.asked };
+      tidy = record { windowed = (c.in_ok-go_on-3.ensures.sound, c.in_ok-right.ensures.right ∙ sym (gone_attempt c.in_ok-go_on-3.ensures.is)); asked = c.requires.tidy.asked };
       awake = c.requires.awake;
-      is = stops (search rules) (search rules) (record { after = c.go-on-2.new.self; goes = subst (λ d. GoneOn (g.P.Place.world c.args.w.now).pages (c.args.most - 1) d c.go-on-2.new.self) (c.tick-y-2.ensures ∙ ap ticked c.anew.ensures) (subst (λ p. GoneOn p (c.args.most - 1) y c.go-on-2.new.self) c.in-ok-right.ensures.used.pages c.in-ok-go-on-3.ensures.is); went = subst (λ d. Went d (g.P.Place.world c.args.w.now) c.go-on-2.new.self (g.P.Place.world c.go-on-2.new.w)) (c.tick-y-2.ensures ∙ ap ticked c.anew.ensures) (went_after k.line.calmly k.used.pages k.line.own k.line.far c.in-ok-go-on-3.ensures.line.0); node = search rules });
-      keeps = ends_ok 62 (omega arith) (then_call (then_ok 0 (begin [] (on_state (Copying c.args.x) n) (g.P.Place.world c.args.w.now) c.requires.soon.up) c.in-ok-right.ensures.does refl (fine (λ i m o h. stop_anew n c.args.x z (c.tick-y-2.ensures ∙ ap ticked c.anew.ensures) h))) c.in-ok-go-on-3.ensures.used.fell (c.in-ok-go-on-3.ensures.keeps (on_state (Paused z) n) refl));
+      is = stops (search rules) (search rules) (record { after = c.go_on-2.new.self; goes = subst (λ d. GoneOn (g.P.Place.world c.args.w.now).pages (c.args.most - 1) d c.go_on-2.new.self) (c.tick-y-2.ensures ∙ ap ticked c.anew.ensures) (subst (λ p. GoneOn p (c.args.most - 1) y c.go_on-2.new.self) c.in_ok-right.ensures.used.pages c.in_ok-go_on-3.ensures.is); node = search rules });
+      keeps = ends_ok 62 (omega arith) (then_call (then_ok 0 (begin [] (on_state (Copying c.args.x) n) (g.P.Place.world c.args.w.now) c.requires.soon.up) c.in_ok-right.ensures.does refl (fine (λ i m o h. stop_anew n c.args.x z (c.tick-y-2.ensures ∙ ap ticked c.anew.ensures) h))) c.in_ok-go_on-3.ensures.used.fell (c.in_ok-go_on-3.ensures.keeps (on_state (Paused z) n) refl));
     }

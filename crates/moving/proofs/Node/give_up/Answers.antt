@@ -6,28 +6,26 @@ use Rattle.moving.specs.declared.state.State.TheVariants.{Copying, Paused}
 use Rattle.moving.specs.Model.{on_state, ticked, afresh}
 use Rattle.moving.specs.Scan.{GoneOn}
 use Rattle.moving.specs.Acted.{took_for}
-use Rattle.moving.specs.Calm.{Went}
-use Rattle.moving.proofs.Passes.{went_after}
 use Rattle.moving.proofs.Ways as ways
 use Rattle.moving.proofs.Ways.{unmade, begin, fine, then_ok, then_call, ends_ok, ends_err, ends_call}
 use Rattle.moving.proofs.Acts.{copies_on, give_up}
 use Rattle.moving.proofs.Node.give_up.Goals as goal
 
-pub returns-in-err-resume : goal.returns-in-err-resume
-returns-in-err-resume g c =
+pub returns-in_err-resume : goal.returns-in_err-resume
+returns-in_err-resume g c =
     let n = c.args.self.now in
     let x = c.args.x in
-    let e = c.from-residual.ensures.0 in
+    let e = c.from_residual.ensures.0 in
     record {
       used = search rules;
       tidy = unmade _ _ e;
       awake = unmade _ _ e;
       is = unmade _ _ e;
-      keeps = ends_err 62 0 _ c.from-residual.result e (omega arith) (begin [] (on_state (Paused x) n) (g.P.Place.world c.args.w.now) c.requires.soon.up) c.in-err-resume.ensures.does (fine (λ i m o h. (give_up n x c.tick-y.result c.requires.tidy.windowed.1 (c.tick-y.ensures ∙ ap ticked c.afresh.ensures) h).1));
+      keeps = ends_err 62 0 _ c.from_residual.result e (omega arith) (begin [] (on_state (Paused x) n) (g.P.Place.world c.args.w.now) c.requires.soon.up) c.in_err-resume.ensures.does (fine (λ i m o h. (give_up n x c.tick-y.result c.requires.tidy.windowed.1 (c.tick-y.ensures ∙ ap ticked c.afresh.ensures) h).1));
     }
 
-pub go-on-requires : goal.go-on-requires
-go-on-requires g c =
+pub go_on-requires : goal.go_on-requires
+go_on-requires g c =
     let n = c.args.self.now in
     let x = c.args.x in
     let y = c.tick-y.result in
@@ -37,21 +35,21 @@ go-on-requires g c =
       soon = search rules;
       enough = omega arith;
       sound = subst⁻¹ (λ (d : Transfer). Sound d.window) e c.requires.tidy.windowed.0;
-      ready = record { n = copies_on y n; has = refl; ready = ways.ready c.requires.ready (omega arith) (then_ok 0 (begin [] (on_state (Paused x) n) (g.P.Place.world c.args.w.now) c.requires.soon.up) c.in-ok-resume.ensures.does refl (fine (λ i m o h. (give_up n x y c.requires.tidy.windowed.1 e h).1))) };
+      ready = record { n = copies_on y n; has = refl; ready = ways.ready c.requires.ready (omega arith) (then_ok 0 (begin [] (on_state (Paused x) n) (g.P.Place.world c.args.w.now) c.requires.soon.up) c.in_ok-resume.ensures.does refl (fine (λ i m o h. (give_up n x y c.requires.tidy.windowed.1 e h).1))) };
     }
 
-pub returns-in-err-go-on : goal.returns-in-err-go-on
-returns-in-err-go-on g c =
+pub returns-in_err-go_on : goal.returns-in_err-go_on
+returns-in_err-go_on g c =
     let n = c.args.self.now in
     let x = c.args.x in
     let y = c.tick-y.result in
-    let e = c.from-residual-in-err-go-on.ensures.0 in
+    let e = c.from_residual-in_err-go_on.ensures.0 in
     record {
       used = search rules;
       tidy = unmade _ _ e;
       awake = unmade _ _ e;
       is = unmade _ _ e;
-      keeps = ends_call 62 _ c.from-residual-in-err-go-on.result e (then_ok 0 (begin [] (on_state (Paused x) n) (g.P.Place.world c.args.w.now) c.requires.soon.up) c.in-ok-resume.ensures.does refl (fine (λ i m o h. (give_up n x y c.requires.tidy.windowed.1 (c.tick-y.ensures ∙ ap ticked c.afresh.ensures) h).1))) (c.in-err-go-on.ensures.keeps (copies_on y n) refl) (omega arith);
+      keeps = ends_call 62 _ c.from_residual-in_err-go_on.result e (then_ok 0 (begin [] (on_state (Paused x) n) (g.P.Place.world c.args.w.now) c.requires.soon.up) c.in_ok-resume.ensures.does refl (fine (λ i m o h. (give_up n x y c.requires.tidy.windowed.1 (c.tick-y.ensures ∙ ap ticked c.afresh.ensures) h).1))) (c.in_err-go_on.ensures.keeps (copies_on y n) refl) (omega arith);
     }
 
 pub returns : goal.returns
@@ -60,11 +58,10 @@ returns g c =
     let x = c.args.x in
     let y = c.tick-y.result in
     let e : y ≡ ticked (afresh x.transfer) = c.tick-y.ensures ∙ ap ticked c.afresh.ensures in
-    let k = c.in-ok-resume.ensures in
     record {
       used = search rules;
-      tidy = record { windowed = c.in-ok-go-on.ensures.sound; asked = c.requires.tidy.asked };
+      tidy = record { windowed = c.in_ok-go_on.ensures.sound; asked = c.requires.tidy.asked };
       awake = c.requires.awake;
-      is = record { after = c.go-on.new.self; goes = subst (λ d. GoneOn (g.P.Place.world c.args.w.now).pages (c.args.most - 1) d c.go-on.new.self) e (subst (λ p. GoneOn p (c.args.most - 1) y c.go-on.new.self) c.in-ok-resume.ensures.used.pages c.in-ok-go-on.ensures.is); went = subst (λ d. Went d (g.P.Place.world c.args.w.now) c.go-on.new.self (g.P.Place.world c.go-on.new.w)) e (went_after k.line.calmly k.used.pages k.line.own k.line.far c.in-ok-go-on.ensures.line.0); node = ap (λ (d : Transfer). on_state (Copying c.go-on.new.self) (took_for d.attempt n)) e };
-      keeps = ends_ok 62 (omega arith) (then_call (then_ok 0 (begin [] (on_state (Paused x) n) (g.P.Place.world c.args.w.now) c.requires.soon.up) c.in-ok-resume.ensures.does refl (fine (λ i m o h. (give_up n x y c.requires.tidy.windowed.1 (c.tick-y.ensures ∙ ap ticked c.afresh.ensures) h).1))) c.in-ok-go-on.ensures.used.fell (c.in-ok-go-on.ensures.keeps (copies_on y n) refl));
+      is = record { after = c.go_on.new.self; goes = subst (λ d. GoneOn (g.P.Place.world c.args.w.now).pages (c.args.most - 1) d c.go_on.new.self) e (subst (λ p. GoneOn p (c.args.most - 1) y c.go_on.new.self) c.in_ok-resume.ensures.used.pages c.in_ok-go_on.ensures.is); node = ap (λ (d : Transfer). on_state (Copying c.go_on.new.self) (took_for d.attempt n)) e };
+      keeps = ends_ok 62 (omega arith) (then_call (then_ok 0 (begin [] (on_state (Paused x) n) (g.P.Place.world c.args.w.now) c.requires.soon.up) c.in_ok-resume.ensures.does refl (fine (λ i m o h. (give_up n x y c.requires.tidy.windowed.1 (c.tick-y.ensures ∙ ap ticked c.afresh.ensures) h).1))) c.in_ok-go_on.ensures.used.fell (c.in_ok-go_on.ensures.keeps (copies_on y n) refl));
     }

@@ -1,17 +1,15 @@
 use Rattle.std.proofs.Common.{[], ◌∷◌, arith, rules}
 use Rattle.letter.specs.Words.{spelt}
 use Rattle.moving.specs.declared.state.State.TheVariants.{Away}
-use Rattle.moving.proofs.Calms.{still_self}
 use Rattle.moving.proofs.Heard.{gone_whole, gone_is, gone_other_is, gone_none_is, tidy_to}
 use Rattle.moving.proofs.Ways.{begin, read, then_so, ends_ok, fine}
 use Rattle.moving.proofs.Node.gone.Goals as goal
 
-pub returns-in-default : goal.returns-in-default
-returns-in-default g c =
+pub returns-in_default : goal.returns-in_default
+returns-in_default g c =
     record {
-      line = still_self _;
       used = search rules;
-      is = gone_none_is c.args.self.now c.args.l.now.attempt c.in-default.not-Committed;
+      is = gone_none_is c.args.self.now c.args.l.now.attempt c.in_default.not-Committed;
       awake = c.requires.awake;
       tidy = c.requires.tidy;
       keeps = ends_ok 0 (omega arith) (read (begin (spelt c.args.l.now ∷ []) c.args.self.now (g.P.Place.world c.args.w.now) c.requires.soon.up));
@@ -20,7 +18,6 @@ returns-in-default g c =
 pub returns-then-x-l : goal.returns-then-x-l
 returns-then-x-l g c =
     record {
-      line = still_self _;
       used = search rules;
       is = gone_is c.args.self.now c.args.l.now.attempt c.in-Committed.x c.in-Committed.is c.if-x-l.true;
       awake = c.requires.awake;
@@ -31,7 +28,6 @@ returns-then-x-l g c =
 pub returns-else-x-l : goal.returns-else-x-l
 returns-else-x-l g c =
     record {
-      line = still_self _;
       used = search rules;
       is = gone_other_is c.args.self.now c.args.l.now.attempt c.in-Committed.x c.in-Committed.is c.if-x-l.false;
       awake = c.requires.awake;

@@ -4,16 +4,14 @@ use Rattle.moving.specs.declared.state.State.TheVariants.{Receiving}
 use Rattle.moving.specs.Hosts.{me}
 use Rattle.moving.proofs.Moves.{put_at}
 use Rattle.moving.proofs.Heard.{page_whole, page_none_is, page_other_is, page_is, page_test, page_room, tidy_to}
-use Rattle.moving.proofs.Calms.{still_self}
 use Rattle.moving.proofs.Ways.{unmade, begin, read, then_ok, ends_ok, ends_err_own, fine}
 use Rattle.moving.proofs.Node.page_came.Goals as goal
 
-pub returns-in-default : goal.returns-in-default
-returns-in-default g c =
+pub returns-in_default : goal.returns-in_default
+returns-in_default g c =
     record {
       used = search rules;
-      is = page_none_is c.args.self.now (g.P.Place.world c.args.w.now).pages c.args.l.now c.in-default.not-Receiving;
-      line = still_self _;
+      is = page_none_is c.args.self.now (g.P.Place.world c.args.w.now).pages c.args.l.now c.in_default.not-Receiving;
       awake = c.requires.awake;
       tidy = c.requires.tidy;
       keeps = ends_ok 0 (omega arith) (read (begin (spelt c.args.l.now ∷ []) c.args.self.now (g.P.Place.world c.args.w.now) c.requires.soon.up));
@@ -24,25 +22,23 @@ returns-then-not-next g c =
     record {
       used = search rules;
       is = page_other_is c.args.self.now (g.P.Place.world c.args.w.now).pages c.args.l.now c.in-Receiving.x c.pages.result c.in-Receiving.is c.pages.ensures c.if-not-next.true;
-      line = still_self _;
       awake = c.requires.awake;
       tidy = c.requires.tidy;
       keeps = ends_ok 0 (omega arith) (read (begin (spelt c.args.l.now ∷ []) c.args.self.now (g.P.Place.world c.args.w.now) c.requires.soon.up));
     }
 
-pub returns-in-err-put : goal.returns-in-err-put
-returns-in-err-put g c =
+pub returns-in_err-put : goal.returns-in_err-put
+returns-in_err-put g c =
     record {
       used = search rules;
-      is = unmade c.from-residual.result _ c.from-residual.ensures.0;
-      line = unmade c.from-residual.result _ c.from-residual.ensures.0;
-      awake = unmade c.from-residual.result _ c.from-residual.ensures.0;
-      tidy = unmade c.from-residual.result _ c.from-residual.ensures.0;
-      keeps = ends_err_own 0 _ c.from-residual.result c.from-residual.ensures.0 (put_at c.args.l.now.page _ (me (g.P.Place.world c.args.w.now))) (λ _ _. refl) (omega arith) (begin (spelt c.args.l.now ∷ []) c.args.self.now (g.P.Place.world c.args.w.now) c.requires.soon.up) c.in-err-put.ensures.does;
+      is = unmade c.from_residual.result _ c.from_residual.ensures.0;
+      awake = unmade c.from_residual.result _ c.from_residual.ensures.0;
+      tidy = unmade c.from_residual.result _ c.from_residual.ensures.0;
+      keeps = ends_err_own 0 _ c.from_residual.result c.from_residual.ensures.0 (put_at c.args.l.now.page _ (me (g.P.Place.world c.args.w.now))) (λ _ _. refl) (omega arith) (begin (spelt c.args.l.now ∷ []) c.args.self.now (g.P.Place.world c.args.w.now) c.requires.soon.up) c.in_err-put.ensures.does;
     }
 
-pub overflow-add-self : goal.overflow-add-self
-overflow-add-self g c =
+pub overflow_add-self : goal.overflow_add-self
+overflow_add-self g c =
     let k : c.args.l.now.place < c.requires.ready.m = page_room c.args.l.now c.requires.kind c.requires.ready.whole in
     let r = c.requires.ready.room in
     omega arith
@@ -53,8 +49,7 @@ returns g c =
     record {
       used = search rules;
       is = page_is c.args.self.now (g.P.Place.world c.args.w.now).pages c.args.l.now c.in-Receiving.x c.pages.result c.in-Receiving.is c.pages.ensures c.if-not-next.false;
-      line = c.in-ok-put.ensures.line;
       awake = c.requires.awake;
       tidy = tidy_to c.args.self.now (Receiving _) tt c.requires.tidy;
-      keeps = ends_ok 0 (omega arith) (read (then_ok 0 (begin (spelt c.args.l.now ∷ []) c.args.self.now (g.P.Place.world c.args.w.now) c.requires.soon.up) c.in-ok-put.ensures.does refl (fine (λ i z o h. page_whole c.args.l.now c.in-Receiving.x c.in-Receiving.is t.0 t.1 c.requires.kind h))));
+      keeps = ends_ok 0 (omega arith) (read (then_ok 0 (begin (spelt c.args.l.now ∷ []) c.args.self.now (g.P.Place.world c.args.w.now) c.requires.soon.up) c.in_ok-put.ensures.does refl (fine (λ i z o h. page_whole c.args.l.now c.in-Receiving.x c.in-Receiving.is t.0 t.1 c.requires.kind h))));
     }

@@ -7,8 +7,8 @@ pub loop-word-init : goal.loop-word-init
 unfolding count
 loop-word-init c = refl
 
-pub overflow-add-n : goal.overflow-add-n
-overflow-add-n c =
+pub overflow_add-n : goal.overflow_add-n
+overflow_add-n c =
     let h : get_or c.args.self.now.words c.loop-word.word-index 0 < 2 ^ 64 = search rules in
     omega (arith, words_most c.args.self.now.words c.loop-word.word-index h)
 

@@ -10,6 +10,6 @@ pub returns : goal.returns
 returns c =
     let h = c.args.self.now in
     let p = c.args.p in
-    let v = c.guest-page.new.into in
+    let v = c.guest_page.new.into in
     truth_is h (set h.truth.now p v) _ (length-set h.truth.now p v)
-    (taken_put blank (room h) h.truth.now p v c.requires (omega arith) ∙ ap (λ x. put p x (world_of h).truth) c.guest-page.ensures)
+    (taken_put blank (room h) h.truth.now p v c.requires (omega arith) ∙ ap (λ x. put p x (world_of h).truth) c.guest_page.ensures)

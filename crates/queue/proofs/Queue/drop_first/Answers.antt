@@ -6,15 +6,15 @@ use Rattle.queue.proofs.Queue.drop_first.Goals as goal
 pub returns-then-len-eq0 : goal.returns-then-len-eq0
 returns-then-len-eq0 c = record { rest = none_rest (letters_of c.args.self.now) (omega arith); room = refl }
 
-pub overflow-sub-self : goal.overflow-sub-self
+pub overflow_sub-self : goal.overflow_sub-self
 unfolding letters_of
-overflow-sub-self c =
+overflow_sub-self c =
     let q = c.args.self.now in
     omega (arith, row_length q.count q.head q.slots.now)
 
-pub overflow-add-self : goal.overflow-add-self
+pub overflow_add-self : goal.overflow_add-self
 unfolding letters_of
-overflow-add-self c =
+overflow_add-self c =
     let q = c.args.self.now in
     let e = row_length q.count q.head q.slots.now in
     let lt : q.head < length q.slots.now = omega arith in

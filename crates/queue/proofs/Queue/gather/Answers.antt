@@ -3,9 +3,9 @@ use Rattle.queue.specs.Queues.{letters_of}
 use Rattle.queue.proofs.Rows.{row_length, row_again}
 use Rattle.queue.proofs.Queue.gather.Goals as goal
 
-pub returns-then-n-saturating-sub : goal.returns-then-n-saturating-sub
+pub returns-then-n-saturating_sub : goal.returns-then-n-saturating_sub
 unfolding letters_of
-returns-then-n-saturating-sub c =
+returns-then-n-saturating_sub c =
     let q = c.args.self.now in
     record { letters = row_again q.count q.head q.slots.now c.args.n c.requires.0; room = (refl, omega arith) }
 

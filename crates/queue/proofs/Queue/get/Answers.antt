@@ -4,9 +4,9 @@ use Rattle.queue.specs.Queues.{letters_of}
 use Rattle.queue.proofs.Rows.{row_length, row_at}
 use Rattle.queue.proofs.Queue.get.Goals as goal
 
-pub overflow-add-self : goal.overflow-add-self
+pub overflow_add-self : goal.overflow_add-self
 unfolding letters_of
-overflow-add-self c =
+overflow_add-self c =
     let q = c.args.self.now in
     let e = row_length q.count q.head q.slots.now in
     let lt : q.head + c.args.i < length q.slots.now = omega arith in

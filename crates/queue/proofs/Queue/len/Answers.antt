@@ -7,4 +7,4 @@ pub returns : goal.returns
 unfolding letters_of
 returns c =
     let q = c.args.self.now in
-    c.min.ensures ∙ ap (min q.count) c.saturating-sub-rest.ensures ∙ sym (row_length q.count q.head q.slots.now)
+    c.min.ensures ∙ ap (min q.count) c.saturating_sub-rest.ensures ∙ sym (row_length q.count q.head q.slots.now)

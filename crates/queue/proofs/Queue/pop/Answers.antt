@@ -14,4 +14,4 @@ pub returns : goal.returns
 returns c =
     let r = letters_of c.args.self.now in
     let some : 0 < length r = ltb-true 0 (length r) (sym c.if-not-get.ensures.is) in
-    record { first = head_some r _ some (c.get.ensures.letter c.if-not-get.false); rest = c.drop-first.ensures.rest; room = c.drop-first.ensures.room; same = λ e. absurd (true≢false e) }
+    record { first = head_some r _ some (c.get.ensures.letter c.if-not-get.false); rest = c.drop_first.ensures.rest; room = c.drop_first.ensures.room; same = λ e. absurd (true≢false e) }

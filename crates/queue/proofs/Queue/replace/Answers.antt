@@ -7,9 +7,9 @@ use Rattle.queue.proofs.Queue.replace.Goals as goal
 pub returns-then-i-len : goal.returns-then-i-len
 returns-then-i-len c = record { letters = sym (set_past (letters_of c.args.self.now) c.args.i c.args.letter.now (omega arith)); room = refl }
 
-pub overflow-add-at : goal.overflow-add-at
+pub overflow_add-at : goal.overflow_add-at
 unfolding letters_of
-overflow-add-at c =
+overflow_add-at c =
     let q = c.args.self.now in
     let e = row_length q.count q.head q.slots.now in
     let lt : q.head + c.args.i < length q.slots.now = omega arith in

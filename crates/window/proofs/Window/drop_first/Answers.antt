@@ -5,7 +5,7 @@ use Rattle.window.proofs.Window.drop_first.Goals as goal
 
 pub returns : goal.returns
 returns c =
-    let e = dropped_by c.args.k c.args.self.now c.rotate-left.new.self c.rotate-left.ensures.after in
+    let e = dropped_by c.args.k c.args.self.now c.rotate_left.new.self c.rotate_left.ensures.after in
     record {
       is = e;
       pages = ap pages_of e ∙ dropped_pages c.args.k c.args.self.now c.requires.sound c.requires.there;

@@ -9,4 +9,4 @@ returns-then-n-self c = noted_more c.args.self.now.events.now c.args.self.now.co
 pub returns : goal.returns
 returns c =
     let l = c.args.self.now in
-    ap (told (length l.events.now) (take l.count l.events.now)) c.saturating-add-self.ensures ∙ noted_full l.events.now l.count l.missed c.args.event (omega arith)
+    ap (told (length l.events.now) (take l.count l.events.now)) c.saturating_add-self.ensures ∙ noted_full l.events.now l.count l.missed c.args.event (omega arith)
