@@ -1,8 +1,8 @@
 -- Between rounds, and at their end.
 -- Assumes nothing.
-use Rattle.std.proofs.Common.{◌≡◌, ℕ, ◌+◌, ◌*◌, ◌<◌, ◌≤◌, min, Bool, true, false, cond, not, ◌&&◌, T, ltb, Option, sym, refl, ap, ◌∙◌, subst, arith}
+use Rattle.std.proofs.Common.{◌≡◌, ◌+◌, ◌*◌, ◌<◌, min, Bool, true, false, cond, not, ◌&&◌, T, ltb, Option, sym, refl, ap, ◌∙◌, subst, arith}
 use Rattle.std.proofs.lemmas.Bool.{cond_both, ltb-true}
-use Rattle.moving.specs.Hosts.{World, Goes, Between, asked, InTime, rounded, with_turn, good}
+use Rattle.moving.specs.Hosts.{World, Between, asked, InTime, rounded, with_turn, good}
 use Rattle.plan.specs.declared.Write.{Write}
 use Rattle.pair.specs.Worlds.{wished, closed}
 use Rattle.hosts.specs.Follows.{fills, wishes}

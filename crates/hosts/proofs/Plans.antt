@@ -1,6 +1,6 @@
 -- An ask that goes as planned is one that the traits allow.
 -- Assumes nothing.
-use Rattle.std.proofs.Common.{◌≡◌, ℕ, ◌<◌, Bool, true, false, cond, ◌&&◌, T, ltb, length, replicate, is_ok, is_err, Some, None, Ok, Err, Option, Result, sym, refl, ap, ◌∙◌, subst, subst₂}
+use Rattle.std.proofs.Common.{◌≡◌, Bool, true, false, ◌&&◌, T, ltb, replicate, is_ok, is_err, Some, None, Ok, Err, Option, Result, sym, refl, ap, ◌∙◌, subst, subst₂}
 use mathlib.Core.Path.{subst₃}
 use Rattle.std.proofs.lemmas.Bool.{ltb-true, cond_both}
 use Rattle.moving.specs.Hosts.{World, Goes, rest, writes, Does, counted, wrote}
@@ -11,7 +11,7 @@ use Rattle.plan.specs.declared.Plan.{Plan}
 use Rattle.plan.specs.declared.Write.{Write}
 use Rattle.hosts.specs.declared.Hosts.{Hosts}
 use Rattle.hosts.specs.declared.log.What.{What}
-use Rattle.hosts.specs.Stories.{Story, story_of, noted}
+use Rattle.hosts.specs.Stories.{Story, noted}
 use Rattle.hosts.specs.Follows.{world_of, who_by, event, fills, Follows, stands, before, after, down, Fell}
 
 pub and_left : (a b : Bool) → (a && b) ≡ true → a ≡ true

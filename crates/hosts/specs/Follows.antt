@@ -17,7 +17,7 @@ use Rattle.plan.specs.Plans as plans
 use Rattle.plan.specs.Plans.{fate_of, asked, wreck_of, write_of, post_of, posted, hand_of, handed, wish_of, writes_of}
 use Rattle.hosts.specs.declared.log.Event.{Event}
 use Rattle.hosts.specs.declared.log.What.{What}
-use Rattle.hosts.specs.declared.log.What.TheVariants.{Stop, Resume, Fall, Lost}
+use Rattle.hosts.specs.declared.log.What.TheVariants.{Fall, Lost}
 use Rattle.hosts.specs.declared.Hosts.{Hosts}
 use Rattle.hosts.specs.Stories.{Story, story_of, noted}
 

@@ -1,6 +1,6 @@
 -- How two hosts are made, and what is asked of them beside.
 -- Assumes nothing.
-use Rattle.std.specs.Prelude.{◌≡◌, ℕ, ◌+◌, min, Bool, cond, ◌&&◌, [], length, Some, None, Option, ◌==◌, nat_lt}
+use Rattle.std.specs.Prelude.{◌≡◌, ℕ, ◌+◌, min, Bool, cond, [], length, Some, None, Option, ◌==◌, nat_lt}
 use Rattle.moving.specs.Hosts.{World, AtStart}
 use Rattle.plan.specs.declared.Plan.{Plan}
 use Rattle.plan.specs.Plans.{calm}
@@ -10,7 +10,7 @@ use Rattle.hosts.specs.declared.Refused.{Refused}
 use Rattle.hosts.specs.declared.Refused.TheVariants.{NoPages, ManyPages, ShortMemory, ShortRow, ShortKept}
 use Rattle.hosts.specs.declared.Guest.{Guest}
 use Rattle.hosts.specs.declared.Guest.TheVariants.{Runs, Stands, Lost}
-use Rattle.hosts.specs.Stories.{Story, story_of}
+use Rattle.hosts.specs.Stories.{story_of}
 use Rattle.hosts.specs.Follows.{world_of, who_by}
 
 -- For how many pages there is memory everywhere.

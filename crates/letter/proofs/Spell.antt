@@ -7,7 +7,7 @@ use Rattle.letter.specs.declared.Kind.{Kind}
 use Rattle.letter.specs.declared.Kind.TheVariants.{Probe, Page, Commit, Ack, Refuse, Taken}
 use Rattle.letter.specs.declared.Letter.{Letter}
 use Rattle.letter.specs.Words.{number, kind_of, head, spelt, blank, with_kind, letter_of}
-use Rattle.letter.specs.Laws.{Fits, ReadsWhatWasWritten, WritesWhatWasRead}
+use Rattle.letter.specs.Laws.{ReadsWhatWasWritten, WritesWhatWasRead}
 
 -- a list of eight words and more
 data Eight : List ℕ → Type 0 where

@@ -1,6 +1,6 @@
 -- What the parts of a transfer do, for every node that has it.
 -- Assumes nothing.
-use Rattle.std.proofs.Common.{◌≡◌, ℕ, ◌+◌, ◌-◌, ◌<◌, ◌≤◌, Bool, true, false, cond, not, ◌&&◌, ◌||◌, eqb, List, [], ◌∷◌, get_or, is_ok, is_err, Some, None, Ok, Err, Option, Result, sym, refl, ap, ◌∙◌, subst, subst₂, inl, inr, arith, eq-eqb, ne_eqb}
+use Rattle.std.proofs.Common.{◌≡◌, ℕ, ◌+◌, ◌-◌, ◌<◌, ◌≤◌, Bool, true, false, not, ◌&&◌, ◌||◌, eqb, List, [], is_ok, is_err, Some, Ok, Err, Result, sym, refl, ap, ◌∙◌, subst, subst₂, inl, inr, arith, eq-eqb, ne_eqb}
 use borrow.Author.Tests.{both_ways}
 use Rattle.std.proofs.lemmas.Bool.{cases_lt, cases_eq}
 use Rattle.letter.specs.declared.Kind.TheVariants.{Probe, Page}
@@ -10,22 +10,21 @@ use Rattle.pageset.specs.Member.{member}
 use Rattle.window.specs.declared.Window.{Window}
 use Rattle.window.specs.Pages.{Sound, pushed, most, pages_of}
 use Rattle.window.specs.Pages as pages
-use Rattle.window.proofs.Slots.{pushed_last, pushed_slot, pushed_sound}
+use Rattle.window.proofs.Slots.{pushed_last, pushed_slot}
 use Rattle.moving.specs.declared.Down.{Down}
 use Rattle.moving.specs.declared.Node.{Node}
 use Rattle.moving.specs.declared.state.Transfer.{Transfer}
-use Rattle.moving.specs.declared.state.Paused.{Paused as Pause}
 use Rattle.moving.specs.declared.state.State.{State}
 use Rattle.moving.specs.declared.state.State.TheVariants.{Away, Receiving, Running, Copying, Paused, Committed}
-use Rattle.moving.specs.Hosts.{World, Does, Posts, untouched, me, other}
+use Rattle.moving.specs.Hosts.{World, Does, Posts, untouched, me}
 use Rattle.moving.specs.Model.{moving, carries, carrying, on_state, recount, bare}
-use Rattle.moving.specs.Invariant.{slot, end, unsent, Whole, Ready, Keeps, Carried, Carrying, Pushed, Legit, flip}
-use Rattle.moving.specs.Scan.{Below, due, Looked, grows}
+use Rattle.moving.specs.Invariant.{slot, end, unsent, Whole, Carried, Pushed}
+use Rattle.moving.specs.Scan.{Below, grows}
 use Rattle.moving.proofs.Moves.{none_some, some_same}
 use Rattle.moving.proofs.Letters.{page_legit, probe_legit}
 use Rattle.moving.proofs.Scans.{clear, skip_paused}
-use Rattle.moving.proofs.Steps.{more_whole, step_page, own_whole, push_copying_whole, push_paused_whole, skip_copying_whole, seen}
-use Rattle.moving.proofs.Ways.{SoFar, begin, fine, then_ok, then_call, posts_ends, posted, ready}
+use Rattle.moving.proofs.Steps.{more_whole, step_page, own_whole, push_copying_whole, push_paused_whole, skip_copying_whole}
+use Rattle.moving.proofs.Ways.{SoFar, begin, fine, then_ok, posts_ends, posted}
 
 -- STATES WITH A TRANSFER
 pub carries_self : (s : State) (c : Transfer) → moving s ≡ Some c → carries c s ≡ s

@@ -19,13 +19,12 @@ use Rattle.moving.specs.declared.state.Paused.{Paused as Pause}
 use Rattle.moving.specs.declared.state.Committed.{Committed as Commitment}
 use Rattle.moving.specs.declared.state.State.{State}
 use Rattle.moving.specs.declared.state.State.TheVariants.{Away, Receiving, Running, Copying, Paused, Committed}
-use Rattle.moving.specs.Hosts.{World, put, me, other, kept, put_page, resumed, MayResume, Gets}
+use Rattle.moving.specs.Hosts.{World, kept, put_page, resumed, MayResume, Gets}
 use Rattle.moving.specs.Used.{Used}
 use Rattle.moving.specs.Acted.{Heard, OneHeard, OneHeard.nothing, OneHeard.letter, Hears.more}
 use Rattle.moving.specs.Model.{moving, on_state, on_top, runs_again, asked_for, begins, probed, is_next, received, receives, taken, refused_in, resumes, refused, acked, acked_in, gone_in, by_kind, heeded, Windowed, Tidy}
-use Rattle.moving.specs.Invariant.{View, see, Acked, slot, Legit, Side, Both, Whole}
-use Rattle.moving.proofs.Views.{put_same, put_other, apart, whole_at}
-use Rattle.moving.proofs.Moves.{no, none_some, cell_at, may_go, refused_paused, refused_copying}
+use Rattle.moving.specs.Invariant.{View, Acked, slot, Legit, Side, Both, Whole}
+use Rattle.moving.proofs.Moves.{no, none_some, may_go, refused_paused, refused_copying}
 use Rattle.moving.proofs.Scans.{ack_copying, ack_paused}
 use Rattle.moving.proofs.Letters.{let_go}
 use Rattle.moving.proofs.Steps.{went_whole, may_resume, seen, begin_whole, put_whole, take_whole, refused_whole}

@@ -1,22 +1,18 @@
 -- Letters, and what little is left.
 -- Assumes nothing.
-use Rattle.std.proofs.Common.{◌≡◌, ℕ, ◌+◌, ◌-◌, ◌%◌, ◌<◌, ◌≤◌, Bool, true, false, cond, not, ◌&&◌, ◌||◌, T, eqb, ltb, ◌⊎◌, List, [], ◌∷◌, ◌++◌, length, get_or, drop, Some, None, Option, sym, refl, ap, ◌∙◌, subst, ap₂, inl, inr, arith, eq-eqb, eqb-true}
-use mathlib.Core.Path.{subst⁻¹}
-use mathlib.Core.List.{Memᴰ}
-use borrow.Author.Tests.{both_ways, not-true, not-false, eqb-false}
+use Rattle.std.proofs.Common.{◌≡◌, ℕ, ◌+◌, ◌-◌, ◌%◌, ◌<◌, ◌≤◌, Bool, true, false, not, ◌⊎◌, List, Some, sym, refl, ap, ◌∙◌, subst, inl, inr, arith}
 use Rattle.moving.specs.declared.Node.{Node}
 use Rattle.moving.specs.declared.state.Transfer.{Transfer}
 use Rattle.moving.specs.declared.state.Receiving.{Receiving as Reception}
 use Rattle.moving.specs.declared.state.Running.{Running as Run}
-use Rattle.moving.specs.declared.state.Paused.{Paused as Pause}
 use Rattle.moving.specs.declared.state.Committed.{Committed as Commitment}
 use Rattle.moving.specs.declared.state.State.{State}
-use Rattle.moving.specs.declared.state.State.TheVariants.{Away, Receiving, Running, Copying, Paused, Committed}
-use Rattle.moving.specs.Hosts.{Host, World, put, host_of}
+use Rattle.moving.specs.declared.state.State.TheVariants.{Away, Receiving, Running, Committed}
+use Rattle.moving.specs.Hosts.{Host, host_of}
 use Rattle.moving.specs.Model.{moving, on_state}
-use Rattle.moving.specs.Invariant.{View, flip, kind_of, attempt_of, place_of, page_of, words_of, unsent, slot, end, Flies, runner, keeper, NotReceiving, Stands, Runs, Copied, Guest, Cells, Order, Given, Commits, Under, Carries, Copy, Bears, From, Legit, In, Letters, Side, Both, fresh}
-use Rattle.moving.proofs.Views.{both_swap, both_back, put_same, put_other}
-use Rattle.moving.proofs.Moves.{no, clash, none_some, some_same, receiving_same, mover, on_mine, on_theirs, on_guest, cell_at, went}
+use Rattle.moving.specs.Invariant.{View, flip, kind_of, attempt_of, place_of, page_of, words_of, slot, runner, keeper, NotReceiving, Runs, Carries, Bears, Legit, In, Side, Both}
+use Rattle.moving.proofs.Views.{both_swap, both_back}
+use Rattle.moving.proofs.Moves.{no, clash, none_some, some_same, receiving_same, mover, on_mine, on_theirs, on_guest}
 
 -- m may grow
 more_legit : {m k : ℕ} (l : List ℕ) (n o : Node) (u : View) → m ≤ k → Legit m l n o u → Legit k l n o u

@@ -1,9 +1,7 @@
 -- What is done keeps both sides right, at what a host sees.
 -- Assumes nothing.
-use Rattle.std.proofs.Common.{◌≡◌, ℕ, ◌+◌, ◌-◌, ◌%◌, ◌<◌, ◌≤◌, Bool, true, false, cond, not, ◌&&◌, ◌||◌, T, eqb, ltb, ◌⊎◌, List, [], ◌∷◌, ◌++◌, length, get_or, drop, Some, None, Option, sym, refl, ap, ◌∙◌, subst, ap₂, inl, inr, arith, eq-eqb, eqb-true}
-use mathlib.Core.Path.{subst⁻¹}
-use mathlib.Core.List.{Memᴰ}
-use borrow.Author.Tests.{both_ways, not-true, not-false, eqb-false}
+use Rattle.std.proofs.Common.{◌≡◌, ℕ, ◌+◌, ◌-◌, ◌%◌, ◌<◌, ◌≤◌, Bool, true, false, cond, not, ◌&&◌, ◌||◌, T, eqb, ◌⊎◌, List, [], Some, None, sym, refl, ap, ◌∙◌, subst, ap₂, inl, inr, arith, eq-eqb, eqb-true}
+use borrow.Author.Tests.{both_ways, not-true, eqb-false}
 use Rattle.moving.specs.declared.Node.{Node}
 use Rattle.moving.specs.declared.state.Transfer.{Transfer}
 use Rattle.moving.specs.declared.state.Receiving.{Receiving as Reception}
@@ -12,10 +10,10 @@ use Rattle.moving.specs.declared.state.Paused.{Paused as Pause}
 use Rattle.moving.specs.declared.state.Committed.{Committed as Commitment}
 use Rattle.moving.specs.declared.state.State.{State}
 use Rattle.moving.specs.declared.state.State.TheVariants.{Away, Receiving, Running, Copying, Paused, Committed}
-use Rattle.moving.specs.Hosts.{Host, World, put, host_of}
+use Rattle.moving.specs.Hosts.{Host, put, host_of}
 use Rattle.moving.specs.Model.{moving, on_state, on_top, runs_again}
-use Rattle.moving.specs.Invariant.{View, flip, kind_of, attempt_of, place_of, page_of, words_of, unsent, slot, end, Flies, runner, keeper, NotReceiving, Stands, Runs, Copied, Guest, Cells, Order, Given, Commits, Under, Carries, Copy, Bears, From, Legit, In, Letters, Side, Both, fresh}
-use Rattle.moving.proofs.Views.{both_swap, both_back, put_same, put_other}
+use Rattle.moving.specs.Invariant.{View, flip, kind_of, attempt_of, place_of, page_of, words_of, unsent, slot, Flies, NotReceiving, Stands, Runs, Guest, Given, Under, Carries, Bears, From, Legit, In, Side, Both, fresh}
+use Rattle.moving.proofs.Views.{both_swap, both_back}
 
 pub no : {A : Type 0} {b : Bool} → b ≡ true → b ≡ false → A
 no {b = b} p q = absurd (both_ways b q p)

@@ -1,6 +1,6 @@
 -- Turns and rounds: what the nights keep.
 -- Assumes nothing.
-use Rattle.std.proofs.Common.{◌≡◌, ℕ, ◌+◌, ◌-◌, ◌<◌, ◌≤◌, Bool, true, false, not, [], sym, refl, ap, ◌∙◌, subst, subst₂, arith}
+use Rattle.std.proofs.Common.{◌≡◌, ℕ, ◌+◌, ◌<◌, ◌≤◌, Bool, true, false, not, [], sym, refl, ap, ◌∙◌, subst₂, arith}
 use mathlib.Core.Path.{subst⁻¹}
 use borrow.Author.Tests.{not-true}
 use Rattle.moving.specs.declared.Node.{Node}

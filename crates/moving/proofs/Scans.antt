@@ -1,22 +1,16 @@
 -- What a transfer does: it scans, is acknowledged, begins a pass, stops.
 -- Assumes nothing.
-use Rattle.std.proofs.Common.{◌≡◌, ℕ, ◌+◌, ◌-◌, ◌%◌, ◌<◌, ◌≤◌, Bool, true, false, cond, not, ◌&&◌, ◌||◌, T, eqb, ltb, ◌⊎◌, List, [], ◌∷◌, ◌++◌, length, get_or, drop, Some, None, Option, sym, refl, ap, ◌∙◌, subst, ap₂, inl, inr, arith, ltb-false, ltb-true, eq-eqb, eqb-true}
-use mathlib.Core.Path.{subst⁻¹}
-use mathlib.Core.List.{Memᴰ}
-use borrow.Author.Tests.{both_ways, not-true, not-false, eqb-false}
+use Rattle.std.proofs.Common.{◌≡◌, ℕ, ◌+◌, ◌-◌, ◌%◌, ◌<◌, ◌≤◌, Bool, true, false, cond, not, ◌&&◌, eqb, ltb, List, sym, refl, ap, ◌∙◌, subst, ap₂, arith, ltb-false, ltb-true, eqb-true}
+use borrow.Author.Tests.{eqb-false}
 use Rattle.moving.specs.declared.Node.{Node}
 use Rattle.moving.specs.declared.state.Transfer.{Transfer}
 use Rattle.moving.specs.declared.state.Receiving.{Receiving as Reception}
-use Rattle.moving.specs.declared.state.Running.{Running as Run}
 use Rattle.moving.specs.declared.state.Paused.{Paused as Pause}
-use Rattle.moving.specs.declared.state.Committed.{Committed as Commitment}
-use Rattle.moving.specs.declared.state.State.{State}
-use Rattle.moving.specs.declared.state.State.TheVariants.{Away, Receiving, Running, Copying, Paused, Committed}
-use Rattle.moving.specs.Hosts.{Host, World, put, host_of}
+use Rattle.moving.specs.declared.state.State.TheVariants.{Receiving, Copying, Paused}
+use Rattle.moving.specs.Hosts.{Host, put, host_of}
 use Rattle.moving.specs.Model.{moving, recount, on_state}
-use Rattle.moving.specs.Invariant.{View, flip, kind_of, attempt_of, place_of, page_of, words_of, unsent, slot, end, Flies, runner, keeper, NotReceiving, Stands, Runs, Copied, Guest, Cells, Order, Given, Commits, Under, Carries, Copy, Bears, From, Legit, In, Letters, Side, Both, Pushed, Acked, fresh}
-use Rattle.moving.proofs.Views.{both_swap, both_back, put_same, put_other}
-use Rattle.moving.proofs.Moves.{no, clash, none_some, some_same, receiving_same, mover, on_mine, on_theirs, on_guest, cell_at, went}
+use Rattle.moving.specs.Invariant.{View, flip, kind_of, attempt_of, place_of, page_of, words_of, unsent, slot, end, Flies, Stands, Copied, Under, Carries, Bears, Legit, In, Both, Pushed, Acked}
+use Rattle.moving.proofs.Moves.{no, clash, some_same, mover, on_mine, on_guest, went}
 
 abbrev pub touch_to : (ℕ → Bool) → Host → Host
 touch_to f h = host_of h.page f h.cell h.told h.row h.old

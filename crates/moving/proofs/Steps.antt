@@ -1,6 +1,6 @@
 -- What is done keeps the world whole: one lemma for each kind of step.
 -- Assumes nothing.
-use Rattle.std.proofs.Common.{◌≡◌, ℕ, ◌+◌, ◌-◌, ◌%◌, ◌<◌, ◌≤◌, Bool, true, false, cond, not, ◌&&◌, ◌||◌, T, eqb, ltb, ◌⊎◌, List, [], ◌∷◌, ◌++◌, length, get_or, Some, None, Option, sym, refl, ap, ◌∙◌, subst, inl, inr, arith, eq-eqb, ne_eqb, eqb-true}
+use Rattle.std.proofs.Common.{◌≡◌, ℕ, ◌+◌, ◌-◌, ◌%◌, ◌<◌, ◌≤◌, Bool, true, false, cond, not, ◌&&◌, ◌||◌, T, eqb, ltb, ◌⊎◌, List, [], ◌∷◌, ◌++◌, length, sym, refl, ap, ◌∙◌, subst, inl, inr, arith, eq-eqb, ne_eqb, eqb-true}
 use mathlib.Core.Path.{subst⁻¹, subst₃}
 use mathlib.Core.List.Memᴰ
 use mathlib.Core.List.{Memᴰ}
@@ -11,14 +11,13 @@ use Rattle.moving.specs.declared.state.Receiving.{Receiving as Reception}
 use Rattle.moving.specs.declared.state.Running.{Running as Run}
 use Rattle.moving.specs.declared.state.Paused.{Paused as Pause}
 use Rattle.moving.specs.declared.state.Committed.{Committed as Commitment}
-use Rattle.moving.specs.declared.state.State.{State}
-use Rattle.moving.specs.declared.state.State.TheVariants.{Away, Receiving, Running, Copying, Paused, Committed}
-use Rattle.moving.specs.Hosts.{Host, World, Goes, Goes.rest, Goes.writes, Fallen, Does, Does.stands, Does.falls_before, Does.falls_after, Does.down, Between, Gives, Gives.next, Gives.again, Gives.nothing, Sends, Sends.takes, Sends.loses, put, with_host, with_guest, with_turn, with_link, other, me, wrote, counted, heard, stopped, resumed, seated, renewed, rounded, MayStop, MayResume, MayPut, AtStart, rest', head_is, roughened, taken, Among, kept, put_page, untouched}
-use Rattle.moving.specs.Model.{moving, recount, on_state, on_top, runs_again}
-use Rattle.moving.specs.Invariant.{View, see, view, flip, kind_of, attempt_of, place_of, page_of, words_of, unsent, slot, end, In, Legit, Both, Side, Whole, Stands, Pushed, fresh}
-use Rattle.moving.proofs.Views.{put_same, put_other, put_where, put_off, apart, apart', place, whole_at, both_swap, both_back}
-use Rattle.moving.proofs.Moves.{no, clash, none_some, other_one, page_at, dropped, put_at, cell_at, further, settled, wrote_here, wrote_there, fell, page_put, commit_it, MayGo, may_take, take_it, may_go, go_on, refused_stands, refused, refused_paused, attempt_it, begin_it}
-use Rattle.moving.proofs.Scans.{clear, repause, push_copying, push_paused, skip_copying, skip_paused, stop_it, go_again}
+use Rattle.moving.specs.declared.state.State.TheVariants.{Receiving, Running, Copying, Paused, Committed}
+use Rattle.moving.specs.Hosts.{Host, World, Goes, Goes.rest, Goes.writes, Fallen, Does, Does.stands, Does.falls_before, Does.falls_after, Does.down, Between, Gives, Gives.next, Gives.again, Gives.nothing, Sends, Sends.takes, Sends.loses, put, with_host, with_guest, with_turn, with_link, other, me, wrote, counted, heard, stopped, resumed, seated, MayResume, AtStart, rest', head_is, roughened, taken, Among, kept, put_page, untouched}
+use Rattle.moving.specs.Model.{recount, on_state, on_top, runs_again}
+use Rattle.moving.specs.Invariant.{View, see, view, flip, kind_of, attempt_of, place_of, page_of, words_of, unsent, end, In, Legit, Both, Whole, Pushed, fresh}
+use Rattle.moving.proofs.Views.{put_same, put_other, put_where, put_off, apart, apart', place, whole_at, both_swap}
+use Rattle.moving.proofs.Moves.{no, clash, none_some, other_one, page_at, dropped, put_at, cell_at, further, settled, wrote_here, wrote_there, fell, page_put, commit_it, MayGo, may_take, take_it, may_go, refused_stands, refused, attempt_it, begin_it}
+use Rattle.moving.proofs.Scans.{clear, push_copying, push_paused, skip_copying, stop_it, go_again}
 use Rattle.moving.proofs.Letters.{more_both, link, took, sent, hear, untold, running_same, told_it, asked_here, asked_there}
 
 pub is_true : (b : Bool) → T b → b ≡ true

@@ -1,21 +1,20 @@
 -- How a turn begins and ends.
 -- Assumes nothing.
-use Rattle.std.proofs.Common.{◌≡◌, ℕ, ◌+◌, ◌-◌, ◌%◌, ◌<◌, ◌≤◌, Bool, true, false, cond, ◌&&◌, eqb, ltb, leb, ◌⊎◌, List, [], Some, None, Option, sym, refl, ap, ◌∙◌, subst, inl, inr, arith, eqb-true}
+use Rattle.std.proofs.Common.{◌≡◌, ℕ, ◌-◌, ◌%◌, ◌<◌, ◌≤◌, Bool, true, false, cond, ◌&&◌, eqb, ltb, leb, ◌⊎◌, List, [], Some, None, Option, sym, refl, ap, ◌∙◌, subst, inl, inr, arith, eqb-true}
 use borrow.Author.Tests.{both_ways, eqb-false}
-use Rattle.std.proofs.lemmas.Bool.{cond_both, ltb-true, leb-true, leb-false}
+use Rattle.std.proofs.lemmas.Bool.{leb-true, leb-false}
 use Rattle.letter.specs.declared.Kind.TheVariants.{Ack, Refuse, Taken}
 use Rattle.letter.specs.Words.{spelt}
 use Rattle.moving.specs.declared.Node.{Node}
 use Rattle.moving.specs.declared.turning.Answer.{Answer}
 use Rattle.moving.specs.declared.state.Receiving.{Receiving as Reception}
-use Rattle.moving.specs.declared.state.Committed.{Committed as Commitment}
 use Rattle.moving.specs.declared.state.State.{State}
 use Rattle.moving.specs.declared.state.State.TheVariants.{Away, Receiving, Running, Copying, Paused, Committed}
 use Rattle.moving.specs.Hosts.{World, Goes, rest, writes, Does, stands, put, me, wrote}
 use Rattle.moving.specs.Model as model
 use Rattle.moving.specs.Model.{woken, bare, Tidy, Rested, AskedWell, Windowed, on_state, silent, answer_in, took_or_not, moving, Enough}
 use Rattle.moving.specs.Invariant.{Whole, Both, View, Legit, NotReceiving, flip}
-use Rattle.moving.proofs.Moves.{no, clash, receiving_same, none_some}
+use Rattle.moving.proofs.Moves.{clash, receiving_same, none_some}
 use Rattle.moving.proofs.Letters.{wakes, woke, woke_committed, ack_legit, refuse_legit, taken_legit}
 use Rattle.moving.proofs.Steps.{seen}
 use Rattle.moving.proofs.Heard.{alone}

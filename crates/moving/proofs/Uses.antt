@@ -1,6 +1,6 @@
 -- What an ask does to what's left of the turn, whether the host has fallen, and how many pages there are.
 -- Assumes nothing.
-use Rattle.std.proofs.Common.{◌≡◌, ℕ, ◌+◌, ◌-◌, ◌≤◌, Bool, true, false, not, ◌||◌, T, List, is_ok, IfOk, Ok, Err, Result, sym, refl, ap, ◌∙◌, subst, arith}
+use Rattle.std.proofs.Common.{◌≡◌, ℕ, Bool, true, not, T, List, is_ok, IfOk, Ok, Err, Result, sym, refl, ap, ◌∙◌, subst, arith}
 use Rattle.moving.specs.declared.Down.{Down}
 use Rattle.moving.specs.Hosts.{World, Goes, rest, writes, Does, stands, falls_before, falls_after, down, Posts, posts, Sends, takes, loses, Gets, gets, falls, Gives, next, again, nothing}
 use Rattle.moving.specs.Used.{Soon, Used}

@@ -1,16 +1,13 @@
 -- A way through a function: what was done so far, one more thing done, and how it ends.
 -- Assumes nothing.
-use Rattle.std.proofs.Common.{◌≡◌, ℕ, ◌+◌, ◌-◌, ◌<◌, ◌≤◌, Bool, true, false, not, List, [], ◌∷◌, is_ok, is_err, IfOk, Some, Ok, Err, Result, sym, refl, ap, ◌∙◌, subst, subst₂, arith}
+use Rattle.std.proofs.Common.{◌≡◌, ℕ, ◌+◌, ◌≤◌, Bool, true, false, not, List, [], ◌∷◌, is_ok, is_err, IfOk, Ok, Err, Result, sym, refl, subst, arith}
 use borrow.Author.Tests.{both_ways, not-true}
 use Rattle.moving.specs.declared.Down.{Down}
 use Rattle.moving.specs.declared.Node.{Node}
-use Rattle.moving.specs.declared.state.Transfer.{Transfer}
-use Rattle.moving.specs.Hosts.{Host, World, Does, with_host, Gives, Gets, Gets.gets, Gets.falls, Posts, Posts.posts, other, me}
-use Rattle.moving.specs.Model.{moving, carrying}
-use Rattle.moving.specs.Invariant.{Whole, Ready, Then, Keeps, Carrying, Legit, flip, slot, fresh}
+use Rattle.moving.specs.Hosts.{Host, World, Does, with_host, Gets, Gets.gets, Gets.falls, Posts, Posts.posts, me}
+use Rattle.moving.specs.Invariant.{Whole, Ready, Keeps, Legit, flip}
 use Rattle.moving.proofs.Moves.{dropped}
-use Rattle.moving.proofs.Letters.{page_legit}
-use Rattle.moving.proofs.Steps.{step_page, step_ok, step_err, step_err_own, step_up, gives_whole, gives_fell, sends_whole, sends_fell, more_whole, read_whole, in_hand, seen}
+use Rattle.moving.proofs.Steps.{step_ok, step_err, step_err_own, step_up, gives_whole, gives_fell, sends_whole, sends_fell, more_whole, read_whole, in_hand, seen}
 
 -- From the node n, the world w and the letters x in hand to m, v and y, while numbers grew by k: nobody has fallen, and it's whole as before.
 pub record SoFar (x : List (List ℕ)) (n : Node) (w : World) (k : ℕ) (y : List (List ℕ)) (m : Node) (v : World) : Type 0 where

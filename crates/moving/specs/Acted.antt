@@ -2,7 +2,6 @@
 -- Assumes nothing.
 use Rattle.std.specs.Prelude.{◌≡◌, ℕ, ◌+◌, ◌-◌, ◌%◌, ◌<◌, ◌≤◌, min, Bool, true, false, ◌||◌, List, [], ◌∷◌, ◌++◌, nat_lt}
 use Rattle.letter.specs.declared.Letter.{Letter}
-use Rattle.moving.specs.declared.right.Right.{Right}
 use Rattle.moving.specs.declared.state.Transfer.{Transfer}
 use Rattle.moving.specs.declared.state.Running.{Running as Run}
 use Rattle.moving.specs.declared.state.Paused.{Paused as Pause}

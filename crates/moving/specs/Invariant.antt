@@ -1,6 +1,6 @@
 -- What holds between turns, of the node of the host whose turn it is, the other's, and the world.
 -- Assumes nothing.
-use Rattle.std.specs.Prelude.{◌≡◌, ℕ, ◌+◌, ◌-◌, ◌/◌, ◌%◌, ◌^◌, ◌<◌, ◌≤◌, Bool, true, false, cond, not, T, ◌⊎◌, List, [], ◌∷◌, drop, Some, None, Ok, Err, Option, Result, ◌==◌, ◌≢◌, slice_index}
+use Rattle.std.specs.Prelude.{◌≡◌, ℕ, ◌+◌, ◌-◌, ◌%◌, ◌<◌, ◌≤◌, Bool, true, false, cond, not, ◌⊎◌, List, [], drop, Some, None, Ok, Err, Result, ◌==◌, ◌≢◌, slice_index}
 use mathlib.Core.List.{Memᴰ}
 use Rattle.pageset.specs.Member.{member}
 use Rattle.window.specs.Pages as pages

@@ -1,13 +1,11 @@
 -- What a node remembers: what each letter, and each thing that it does by itself, makes of it.
 -- Assumes nothing.
-use Rattle.std.specs.Prelude.{◌≡◌, ℕ, ◌+◌, ◌-◌, ◌*◌, ◌%◌, ◌<◌, ◌≤◌, min, Bool, true, false, cond, not, ◌&&◌, ◌||◌, List, [], ◌∷◌, replicate, Some, None, Option, ◌==◌, nat_le, nat_lt}
+use Rattle.std.specs.Prelude.{◌≡◌, ℕ, ◌+◌, ◌-◌, ◌*◌, ◌%◌, ◌≤◌, min, Bool, true, false, cond, ◌&&◌, replicate, Some, None, Option, ◌==◌, nat_le, nat_lt}
 use Rattle.letter.specs.declared.Kind.{Kind}
 use Rattle.letter.specs.declared.Kind.TheVariants.{Probe, Page, Commit, Ack, Refuse, Taken}
 use Rattle.letter.specs.declared.Letter.{Letter}
-use Rattle.letter.specs.Words.{letter_of}
 use Rattle.window.specs.Pages.{Sound, dropped}
 use Rattle.moving.specs.declared.state.Transfer.{Transfer}
-use Rattle.moving.specs.declared.state.Paused.{Paused as Pause}
 use Rattle.moving.specs.declared.state.State.{State}
 use Rattle.moving.specs.declared.state.State.TheVariants.{Away, Receiving, Running, Copying, Paused, Committed}
 use Rattle.moving.specs.declared.Node.{Node}

@@ -6,16 +6,10 @@ ghost use Rattle.moving.specs.Hosts.{me};
 ghost use Rattle.moving.specs.Model.{Tidy, on_state, on_top, Enough, ticked, afresh};
 ghost use Rattle.moving.specs.Acted.{Copies, New, RunDid, CopyDid, PauseDid, ActedIn, commits, said_again, took_for};
 ghost use Rattle.moving.specs.Invariant.{Ready, Keeps};
-use super::Down;
-use super::Node;
-use super::Place;
-use super::asks;
+
 use super::right::Right;
-use super::state::Committed;
-use super::state::Paused;
-use super::state::Running;
-use super::state::State;
-use super::state::Transfer;
+use super::state::{Committed, Paused, Running, State, Transfer};
+use super::{Down, Node, Place, asks};
 use letter::Kind;
 
 // A pass that took more turns than this isn't followed by a stop.

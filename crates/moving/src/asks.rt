@@ -4,10 +4,9 @@ ghost use Rattle.letter.specs.Words.{spelt};
 ghost use Rattle.moving.specs.Hosts.{Does, Posts, Gets, MayPut, MayStop, MayResume, me, heard, untouched, kept, put_page, stopped, resumed};
 ghost use Rattle.moving.specs.Model.{bare};
 ghost use Rattle.moving.specs.Used.{Soon, Used};
-use super::Down;
-use super::Place;
-use letter::Kind;
-use letter::Letter;
+
+use super::{Down, Place};
+use letter::{Kind, Letter};
 
 pub fn told<P: Place>(w: &mut P) -> Result<bool, Down>
     requires soon { Soon 1 (P.world w.old) }

@@ -6,19 +6,11 @@ ghost use Rattle.moving.specs.Model.{Tidy, Windowed, moving, begins, probed, rec
 ghost use Rattle.moving.specs.Acted.{Heard, OneHeard};
 ghost use Rattle.window.specs.Pages.{Sound};
 ghost use Rattle.moving.specs.Invariant.{Ready, Keeps};
-use super::Down;
-use super::Node;
-use super::Place;
-use super::asks;
+
 use super::right::Right;
-use super::state::Committed;
-use super::state::Paused;
-use super::state::Receiving;
-use super::state::Running;
-use super::state::State;
-use super::state::Transfer;
-use letter::Kind;
-use letter::Letter;
+use super::state::{Committed, Paused, Receiving, Running, State, Transfer};
+use super::{Down, Node, Place, asks};
+use letter::{Kind, Letter};
 
 impl State {
     // May an attempt of the other begin here?

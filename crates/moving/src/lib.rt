@@ -1,4 +1,6 @@
 // What a host may ask, what no host sees, two hosts, and the nights between.
+#![tactic(auto)]
+
 ghost use Rattle.std.specs.Prelude.{◌≡◌, ℕ, ◌<◌, ◌≤◌, Bool, true, false, not, T, [], length, is_ok, Ok, OnOk};
 ghost use Rattle.moving.specs.Hosts.{World, Does, Posts, Gets, Between, MayResume, MayStop, MayPut, InTime, AtStart, me, put_page, untouched, kept, heard, stopped, resumed, seated, renewed, rounded};
 ghost use Rattle.moving.specs.Promise.{OneTruth, LostStays};
@@ -103,8 +105,7 @@ mod sending;
 pub mod state;
 mod turning;
 
-use state::Running;
-use state::State;
+use state::{Running, State};
 
 // What a host knows while it stands. took, top, committed: copies of cells 0, 1 and 2, right while it's awake;
 // asked: the attempt of the last probe or commit that it has heard in this turn.

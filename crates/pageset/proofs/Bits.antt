@@ -1,5 +1,5 @@
 -- The bits of a list of words: after one was changed, and how many are set.
-use Rattle.std.proofs.Common.{◌≡◌, ℕ, zero, suc, ◌+◌, ◌-◌, ◌*◌, ◌/◌, ◌%◌, ◌^◌, ◌<◌, ◌≤◌, Bool, true, false, not, ◌&&◌, ◌||◌, eqb, ltb, List, length, get_or, set, replicate, sym, refl, ap, ◌∙◌, inl, inr, div-one, add-one, one-add, arith, get_or-set_other, get_or-set_same}
+use Rattle.std.proofs.Common.{◌≡◌, ℕ, zero, suc, ◌+◌, ◌-◌, ◌*◌, ◌/◌, ◌%◌, ◌^◌, ◌<◌, ◌≤◌, true, false, not, ◌&&◌, ◌||◌, eqb, ltb, List, length, get_or, set, replicate, sym, refl, ap, ◌∙◌, inl, inr, div-one, add-one, one-add, arith, get_or-set_other, get_or-set_same}
 use native.Mathlib.Nat.{zero-div, div_self, div-eq_of_lt, mul-mod_left}
 use lib.Bits.{bit_and, bit_or, bit_xor}
 use lib.Count.{ones, ones_step}

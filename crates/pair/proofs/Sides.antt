@@ -1,10 +1,10 @@
 -- A host of two that has become another, as a change of the world.
 -- Assumes nothing.
-use Rattle.std.proofs.Common.{◌≡◌, ℕ, ◌+◌, ◌-◌, ◌<◌, ◌≤◌, min, Bool, true, false, cond, not, ◌&&◌, ◌||◌, eqb, List, [], length, get_or, take, sym, refl, ap, ◌∙◌, subst, arith}
+use Rattle.std.proofs.Common.{◌≡◌, ℕ, ◌-◌, ◌≤◌, min, Bool, true, false, not, ◌&&◌, ◌||◌, eqb, List, length, get_or, take, sym, refl, ap, ◌∙◌, subst, arith}
 use mathlib.Core.Path.{fun_ext}
 use Rattle.std.proofs.lemmas.Bool.{eq-eqb, cond-true}
 use Rattle.std.proofs.lemmas.Bool.Decides.{nat_tests}
-use Rattle.moving.specs.Hosts.{Host, World, host_of, with_host, with_turn, with_guest, with_link, put, me, other}
+use Rattle.moving.specs.Hosts.{Host, World, host_of, with_host, with_turn, with_guest, put, me, other}
 use Rattle.queue.specs.Queues.{letters_of}
 use Rattle.side.specs.declared.Who.{Who}
 use Rattle.side.specs.declared.Who.TheVariants.{Zero, One}

@@ -1,7 +1,7 @@
 -- What two hosts in memory and their guest are, as a world.
 -- Assumes nothing.
-use Rattle.std.specs.Prelude.{◌≡◌, ℕ, ◌+◌, ◌<◌, ◌≤◌, min, Bool, true, false, cond, not, ◌&&◌, List, [], ◌∷◌, length, take, replicate, ◌==◌, nat_lt, slice_index_or}
-use Rattle.moving.specs.Hosts.{Host, World, host_of, put, Among, taken, head_is, rest', with_host, with_guest, with_link, me, other, Fallen, with_turn, good}
+use Rattle.std.specs.Prelude.{◌≡◌, ℕ, ◌+◌, ◌<◌, min, Bool, true, false, cond, not, ◌&&◌, List, [], ◌∷◌, length, take, replicate, ◌==◌, nat_lt, slice_index_or}
+use Rattle.moving.specs.Hosts.{Host, World, host_of, put, Among, taken, head_is, rest', with_host, with_guest, with_link, me, Fallen, with_turn, good}
 use Rattle.side.specs.declared.Mix.{Mix}
 use Rattle.side.specs.Sides.{numb, blank, size_of, host, remembered, roughened}
 use Rattle.pair.specs.declared.Pair.{Pair}

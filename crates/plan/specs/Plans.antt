@@ -1,6 +1,6 @@
 -- What a plan answers, and what is left of it.
 -- Assumes nothing.
-use Rattle.std.specs.Prelude.{ℕ, ◌+◌, ◌-◌, ◌*◌, ◌/◌, ◌%◌, ◌^◌, Bool, true, false, cond, not, ◌&&◌, ◌||◌, Some, None, Option, ◌==◌, bit_xor, nat_le}
+use Rattle.std.specs.Prelude.{ℕ, ◌+◌, ◌-◌, ◌*◌, ◌/◌, ◌%◌, ◌^◌, Bool, false, cond, not, ◌&&◌, ◌||◌, Some, None, Option, ◌==◌, bit_xor, nat_le}
 use Rattle.side.specs.declared.Who.{Who}
 use Rattle.side.specs.declared.Who.TheVariants.{Zero, One}
 use Rattle.side.specs.declared.Mix.{Mix}

@@ -1,7 +1,7 @@
 -- The part of a list that begins at h and has at most c elements: how long it is, what stands in it, and what becomes of it.
 -- Assumes nothing.
-use Rattle.std.proofs.Common.{◌≡◌, ℕ, zero, suc, ◌+◌, ◌-◌, ◌<◌, ◌≤◌, min, Bool, true, false, List, [], ◌∷◌, ◌++◌, length, get_or, take, drop, set, sym, refl, ap, ◌∙◌, subst, arith, length-drop, length-take}
-use Rattle.std.proofs.lemmas.List.{take_more_set, drop-set-add, drop_more, drop_all, get_or-take, get_or-drop, set_past}
+use Rattle.std.proofs.Common.{◌≡◌, ℕ, zero, suc, ◌+◌, ◌-◌, ◌<◌, ◌≤◌, min, true, false, List, [], ◌∷◌, ◌++◌, length, get_or, take, drop, set, sym, refl, ap, ◌∙◌, arith, length-drop, length-take}
+use Rattle.std.proofs.lemmas.List.{take_more_set, drop-set-add, drop_more, get_or-take, get_or-drop}
 use Rattle.moving.specs.Hosts.{head_is, rest'}
 
 pub row_length : {A : Type 0} (c h : ℕ) (xs : List A) → length (take c (drop h xs)) ≡ min c (length xs - h)

@@ -1,6 +1,6 @@
 -- What one host in memory is, as a host of the world.
 -- Assumes nothing.
-use Rattle.std.specs.Prelude.{◌≡◌, ℕ, ◌+◌, ◌-◌, ◌*◌, ◌%◌, ◌<◌, ◌≤◌, min, Bool, true, false, cond, List, [], ◌∷◌, ◌++◌, length, get_or, take, replicate, ◌==◌, nat_lt, slice_index, slice_index_or, slice_set}
+use Rattle.std.specs.Prelude.{◌≡◌, ℕ, ◌-◌, ◌*◌, ◌%◌, ◌<◌, ◌≤◌, min, Bool, true, false, cond, List, [], ◌∷◌, ◌++◌, length, get_or, take, replicate, ◌==◌, nat_lt, slice_index, slice_index_or, slice_set}
 use Rattle.moving.specs.Hosts.{Host, host_of, put, Among, taken, head_is, rest'}
 use Rattle.queue.specs.Queues.{letters_of, room_of}
 use Rattle.queue.specs.declared.Queue.{Queue}

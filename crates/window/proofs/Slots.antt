@@ -1,6 +1,6 @@
 -- The pages of a window after each change.
-use Rattle.std.proofs.Common.{◌≡◌, ℕ, ◌+◌, ◌-◌, ◌^◌, ◌<◌, ◌≤◌, List, [], ◌∷◌, ◌++◌, map, length, get_or, take, drop, set, sym, refl, ap, ◌∙◌, arith}
-use Rattle.std.proofs.lemmas.List.{length-map, length-set, length-append, length-take, length-drop, length-take-le, take_more_set, take-append-le, map-append, drop-map, drop-take, get_or_append_left, get_or-append-add, get_or-drop, get_or-map, get_or-take, get_or_push}
+use Rattle.std.proofs.Common.{◌≡◌, ℕ, ◌+◌, ◌-◌, ◌^◌, ◌<◌, ◌≤◌, List, [], ◌∷◌, ◌++◌, map, length, get_or, take, drop, sym, ap, ◌∙◌, arith}
+use Rattle.std.proofs.lemmas.List.{length-map, length-set, length-append, length-drop, length-take-le, take_more_set, take-append-le, map-append, drop-map, drop-take, get_or_append_left, get_or-drop, get_or-map, get_or-take, get_or_push}
 use Rattle.window.specs.declared.Flight.{Flight}
 use Rattle.window.specs.declared.Window.{Window}
 use Rattle.window.specs.Pages.{most, Sound, page_of, pages_of, slot, pushed, dropped}

@@ -1,4 +1,4 @@
-use Rattle.std.proofs.Common.{◌≡◌, ◌+◌, ◌*◌, true, false, [], sym, refl, ap, ◌∙◌, subst, subst₂, arith}
+use Rattle.std.proofs.Common.{◌+◌, ◌*◌, true, false, [], sym, ap, ◌∙◌, subst, subst₂, arith}
 use Rattle.moving.specs.Hosts.{seated}
 use Rattle.moving.specs.Model.{Rested}
 use Rattle.moving.specs.Invariant.{Whole}

@@ -1,4 +1,4 @@
-use Rattle.std.proofs.Common.{◌≡◌, ◌+◌, ◌<◌, ◌≢◌, [], length, get_or, take, drop, sym, ◌∙◌, arith, length-drop, length-take, below_more}
+use Rattle.std.proofs.Common.{◌+◌, ◌<◌, [], length, get_or, take, drop, sym, ◌∙◌, arith, length-drop, length-take, below_more}
 use Rattle.std.proofs.lemmas.List.{get_or-set_same, get_or-set_other, get_or-take, get_or-drop, get_or_default, same_lists}
 use Rattle.queue.proofs.shift.Goals as goal
 

@@ -1,4 +1,4 @@
-use Rattle.std.proofs.Common.{false, ◌∙◌, arith, below_more}
+use Rattle.std.proofs.Common.{◌∙◌, arith, below_more}
 use Rattle.std.proofs.lemmas.List.{get_or-set_same, get_or-set_other}
 use Rattle.side.specs.Sides.{blank}
 use Rattle.side.proofs.fill.Goals as goal

@@ -1,4 +1,4 @@
-use Rattle.std.proofs.Common.{◌≡◌, ℕ, ◌<◌, false, get_or, replicate}
+use Rattle.std.proofs.Common.{◌≡◌, ℕ, ◌<◌, get_or, replicate}
 use Rattle.side.specs.Sides.{blank}
 use Rattle.side.proofs.fill.Given as goal
 

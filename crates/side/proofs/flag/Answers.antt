@@ -1,6 +1,5 @@
 use Rattle.std.proofs.Common.{false, ◌∙◌, arith, below_more}
 use Rattle.std.proofs.lemmas.List.{get_or-set_same, get_or-set_other}
-use Rattle.side.specs.Sides.{blank}
 use Rattle.side.proofs.flag.Goals as goal
 
 pub loop-p-preserved : goal.loop-p-preserved

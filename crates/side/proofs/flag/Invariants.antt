@@ -1,5 +1,4 @@
-use Rattle.std.proofs.Common.{◌≡◌, ℕ, ◌<◌, false, get_or, replicate}
-use Rattle.side.specs.Sides.{blank}
+use Rattle.std.proofs.Common.{◌≡◌, ℕ, ◌<◌, false, get_or}
 use Rattle.side.proofs.flag.Given as goal
 
 abbrev pub invariant-loop-p : goal.invariant-loop-p

@@ -1,4 +1,4 @@
-use Rattle.std.proofs.Common.{sym, refl, ap, ◌∙◌}
+use Rattle.std.proofs.Common.{ap, ◌∙◌}
 use Rattle.moving.specs.Hosts.{kept}
 use Rattle.hosts.specs.Follows.{world_of}
 use Rattle.hosts.proofs.Plans.{follows_does, fails, falls_as, as_planned}

@@ -1,4 +1,4 @@
-use Rattle.std.proofs.Common.{sym, refl, ap, ◌∙◌}
+use Rattle.std.proofs.Common.{ap, ◌∙◌}
 use Rattle.moving.specs.Hosts.{resumed, counted}
 use Rattle.hosts.specs.declared.log.What.TheVariants.{Resume}
 use Rattle.hosts.specs.Follows.{world_of}

@@ -1,4 +1,4 @@
-use Rattle.std.proofs.Common.{sym, refl, ap, ◌∙◌}
+use Rattle.std.proofs.Common.{ap, ◌∙◌}
 use Rattle.moving.specs.Hosts.{stopped, counted}
 use Rattle.hosts.specs.declared.log.What.TheVariants.{Stop}
 use Rattle.hosts.specs.Follows.{world_of}

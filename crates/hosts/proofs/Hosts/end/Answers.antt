@@ -1,8 +1,8 @@
-use Rattle.std.proofs.Common.{cond, sym, refl, ap, ◌∙◌, subst}
+use Rattle.std.proofs.Common.{refl, ap, ◌∙◌}
 use Rattle.std.proofs.lemmas.Bool.{cond-true, cond-false}
 use Rattle.moving.specs.Hosts.{counted}
 use Rattle.plan.specs.Plans.{write_of}
-use Rattle.hosts.specs.Follows.{world_of, stands, after, fills}
+use Rattle.hosts.specs.Follows.{stands, after, fills}
 use Rattle.hosts.proofs.Plans.{fell_at}
 use Rattle.hosts.proofs.Hosts.end.Goals as goal
 

@@ -1,4 +1,4 @@
-use Rattle.std.proofs.Common.{sym, refl, ap, ◌∙◌, subst}
+use Rattle.std.proofs.Common.{sym, ap, ◌∙◌, subst}
 use Rattle.moving.specs.Hosts.{Between}
 use Rattle.plan.specs.Plans as plans
 use Rattle.plan.specs.Plans.{wish_of, writes_of}

@@ -6,7 +6,7 @@ use Rattle.moving.specs.declared.state.Paused.{Paused as Pause}
 use Rattle.moving.specs.declared.state.State.TheVariants.{Paused}
 use Rattle.moving.specs.Model.{on_state, ticked}
 use Rattle.moving.specs.Scan.{GoneOn}
-use Rattle.moving.specs.Acted.{settles, resumes, goes}
+use Rattle.moving.specs.Acted.{goes}
 use Rattle.moving.proofs.Ways as ways
 use Rattle.moving.proofs.Ways.{unmade, begin, then_call, ends_ok, ends_call, ends_tail}
 use Rattle.moving.proofs.Acts.{ticks_paused, gone_attempt}

@@ -1,6 +1,6 @@
-use Rattle.std.proofs.Common.{◌≡◌, [], sym, refl, ap, ◌∙◌, arith, rules}
+use Rattle.std.proofs.Common.{[], sym, refl, arith, rules}
 use Rattle.moving.specs.Model.{silent}
-use Rattle.moving.proofs.Ways.{SoFar, begin, fine, then_so, posted, posts_err, ends_ok, unmade}
+use Rattle.moving.proofs.Ways.{begin, fine, then_so, posted, posts_err, ends_ok, unmade}
 use Rattle.moving.proofs.Turned.{hush_whole, answer_legit}
 use Rattle.moving.proofs.Node.reply.Goals as goal
 

@@ -1,10 +1,10 @@
-use Rattle.std.proofs.Common.{◌≡◌, ℕ, ◌+◌, ◌-◌, ◌<◌, ◌≤◌, ◌⊎◌, [], None, sym, refl, ap, ◌∙◌, subst, inl, inr, arith, rules}
+use Rattle.std.proofs.Common.{◌≡◌, ◌-◌, ◌≤◌, ◌⊎◌, [], None, sym, ap, ◌∙◌, subst, inl, inr, arith, rules}
 use Rattle.std.proofs.lemmas.Bool.{cases_lt}
 use Rattle.moving.specs.declared.state.State.TheVariants.{Away}
 use Rattle.moving.specs.Hosts.{me}
 use Rattle.moving.specs.Model.{moving, Windowed, on_state, woken}
 use Rattle.moving.specs.Acted.{Heard, ActedIn}
-use Rattle.moving.proofs.Ways.{SoFar, begin, then_call, ready, ends_ok, ends_call, unmade}
+use Rattle.moving.proofs.Ways.{begin, then_call, ready, ends_ok, ends_call, unmade}
 use Rattle.moving.proofs.Turned.{enough_for}
 use Rattle.moving.proofs.Node.turn.Goals as goal
 

@@ -1,10 +1,8 @@
-use Rattle.std.proofs.Common.{◌≡◌, ℕ, ◌+◌, ◌-◌, ◌%◌, ◌<◌, ◌≤◌, Bool, true, false, cond, ◌&&◌, eqb, ltb, [], sym, refl, ap, ◌∙◌, subst, arith, rules}
+use Rattle.std.proofs.Common.{◌≡◌, ◌<◌, [], sym, refl, ap, ◌∙◌, arith, rules}
 use Rattle.std.proofs.lemmas.Bool.{cond-true, cond-false, eqb-true, ltb-true}
-use Rattle.moving.specs.declared.Node.{Node}
-use Rattle.moving.specs.declared.state.State.TheVariants.{Away, Committed}
-use Rattle.moving.specs.Hosts.{me}
-use Rattle.moving.specs.Model.{moving, Rested, woke, woken}
-use Rattle.moving.proofs.Ways.{SoFar, begin, fine, then_ok, ends_ok, ends_err, unmade}
+use Rattle.moving.specs.declared.state.State.TheVariants.{Away}
+use Rattle.moving.specs.Model.{moving}
+use Rattle.moving.proofs.Ways.{begin, fine, then_ok, ends_ok, ends_err, unmade}
 use Rattle.moving.proofs.Turned.{step_cell, wake_whole, wake_committed_whole, nobody_asks, and_first, and_second, woken_is}
 use Rattle.moving.proofs.Node.wake.Goals as goal
 

@@ -1,4 +1,4 @@
-use Rattle.std.proofs.Common.{◌<◌, ◌≤◌, length, refl, arith, rules}
+use Rattle.std.proofs.Common.{◌<◌, length, refl, arith, rules}
 use Rattle.queue.specs.Queues.{letters_of}
 use Rattle.queue.proofs.Rows.{row_length, none_rest, row_rest}
 use Rattle.queue.proofs.Queue.drop_first.Goals as goal

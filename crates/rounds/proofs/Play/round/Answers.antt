@@ -1,4 +1,4 @@
-use Rattle.std.proofs.Common.{◌≡◌, ◌+◌, ◌*◌, [], sym, refl, ap, ◌∙◌, arith}
+use Rattle.std.proofs.Common.{◌+◌, ◌*◌, ap, ◌∙◌, arith}
 use Rattle.moving.proofs.Falls.{between_fell}
 use Rattle.moving.proofs.Steps.{between_whole}
 use Rattle.moving.proofs.Rounds.{next}

@@ -1,4 +1,4 @@
-use Rattle.std.proofs.Common.{sym, refl}
+use Rattle.std.proofs.Common.{refl}
 use Rattle.std.proofs.lemmas.Bool.{false≢true}
 use Rattle.script.proofs.Numbers.{not_plain, parsed}
 use Rattle.script.proofs.words.number.Goals as goal

@@ -1,4 +1,4 @@
-use Rattle.std.proofs.Common.{◌-◌, sym, arith, rules}
+use Rattle.std.proofs.Common.{◌-◌, sym, arith}
 use Rattle.window.proofs.Slots.{slot_flight}
 use Rattle.window.proofs.Window.page_at.Goals as goal
 

@@ -1,4 +1,4 @@
-use Rattle.std.proofs.Common.{refl, rules}
+use Rattle.std.proofs.Common.{refl}
 use Rattle.window.proofs.Slots.{pushed_pages, pushed_sound}
 use Rattle.window.proofs.Window.push.Goals as goal
 

@@ -3,4 +3,4 @@ use Rattle.window.specs.Pages.{Sound}
 use Rattle.window.proofs.tests.fills.Given as goal
 
 abbrev pub invariant-loop-page : goal.invariant-loop-page
-invariant-loop-page l = Sound l.w × (l.w.len ≡ l.page) × (l.w.base ≡ 0)
+invariant-loop-page g l = Sound l.w × (l.w.len ≡ l.page) × (l.w.base ≡ 0)

@@ -1,5 +1,4 @@
 use Rattle.std.proofs.Common.{length, take, ap, ◌∙◌, arith}
-use Rattle.hosts.specs.Stories.{Story}
 use Rattle.hosts.proofs.Logs.{noted_more, noted_full, told}
 use Rattle.hosts.proofs.log.Log.note.Goals as goal
 

@@ -1,6 +1,5 @@
-use Rattle.std.proofs.Common.{◌≡◌, ℕ, ◌+◌, ◌-◌, ◌*◌, ◌<◌, ◌≤◌, [], sym, refl, ap, ◌∙◌, subst, arith, rules, eqb-true}
+use Rattle.std.proofs.Common.{◌-◌, sym, refl, ◌∙◌, subst, arith, rules, eqb-true}
 use borrow.Author.Tests.{eqb-false}
-use Rattle.moving.specs.Model.{carrying}
 use Rattle.moving.specs.Scan.{Scanned}
 use Rattle.moving.proofs.Ways as ways
 use Rattle.moving.proofs.Ways.{SoFar, begin, then_call, posted, posts_ends, ends_ok, ends_call, unmade, less_ready}

@@ -1,15 +1,13 @@
-use Rattle.std.proofs.Common.{◌≡◌, ℕ, ◌+◌, ◌-◌, ◌<◌, ◌≤◌, min, Bool, true, false, cond, not, ◌&&◌, ◌||◌, eqb, [], sym, refl, ap, ◌∙◌, subst, arith, rules}
+use Rattle.std.proofs.Common.{◌≡◌, ◌+◌, ◌-◌, true, false, ◌||◌, [], sym, refl, ap, ◌∙◌, subst, arith, rules}
 use Rattle.std.proofs.lemmas.Bool.{cond-true, cond-false}
 use Rattle.pageset.specs.Member.{member}
-use Rattle.window.specs.Pages as pages
-use Rattle.moving.specs.declared.Node.{Node}
 use Rattle.moving.specs.declared.state.Transfer.{Transfer}
 use Rattle.moving.specs.Hosts.{me}
-use Rattle.moving.specs.Model.{carrying, moving}
-use Rattle.moving.specs.Invariant.{Pushed, Keeps, slot}
-use Rattle.moving.specs.Scan.{Looked, Below, due}
+use Rattle.moving.specs.Model.{carrying}
+use Rattle.moving.specs.Invariant.{Pushed, slot}
+use Rattle.moving.specs.Scan.{due}
 use Rattle.moving.proofs.Scans.{clear}
-use Rattle.moving.proofs.Ways.{SoFar, begin, fine, then_ok, then_call, ends_ok, ends_err_own, ends_call, ready, unmade}
+use Rattle.moving.proofs.Ways.{SoFar, begin, fine, then_ok, then_call, ends_ok, ends_err_own, ends_call, unmade}
 use Rattle.moving.proofs.Carries.{pushed_by, push_carrying, skip_carrying, pushed_below, carries_has, carry_twice, or_false_left, or_false_right, skip_unsent, below_more, or_true, grown}
 use Rattle.moving.proofs.state.Transfer.look.Goals as goal
 

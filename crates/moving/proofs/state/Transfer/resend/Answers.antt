@@ -1,4 +1,4 @@
-use Rattle.std.proofs.Common.{◌≡◌, ℕ, ◌+◌, ◌-◌, ◌*◌, ◌<◌, ◌≤◌, [], sym, refl, ap, ◌∙◌, subst, arith, rules}
+use Rattle.std.proofs.Common.{◌≡◌, ◌+◌, ◌-◌, [], sym, ap, subst, arith, rules}
 use Rattle.moving.specs.Invariant.{slot}
 use Rattle.moving.proofs.Ways.{SoFar, begin, then_call, more, ends_ok, ends_call}
 use Rattle.moving.proofs.Carries.{carry_self}

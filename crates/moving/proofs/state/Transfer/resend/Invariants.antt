@@ -1,4 +1,4 @@
-use Rattle.std.proofs.Common.{◌≡◌, ℕ, ◌*◌, ◌≤◌, true, [], Some}
+use Rattle.std.proofs.Common.{◌≡◌, ◌*◌, true, [], Some}
 use Rattle.moving.specs.declared.Node.{Node}
 use Rattle.moving.specs.Model.{moving}
 use Rattle.moving.specs.Used.{Used}

@@ -1,7 +1,7 @@
-use Rattle.std.proofs.Common.{◌≡◌, ℕ, ◌+◌, ◌-◌, ◌*◌, ◌<◌, ◌≤◌, [], sym, refl, ap, ◌∙◌, subst, inl, inr, arith, rules, eqb-true}
+use Rattle.std.proofs.Common.{◌≡◌, ◌+◌, ◌<◌, [], sym, ◌∙◌, subst, inl, inr, arith, rules, eqb-true}
 use borrow.Author.Tests.{eqb-false}
 use Rattle.moving.specs.Model.{carrying}
-use Rattle.moving.specs.Scan.{Looks, none, more}
+use Rattle.moving.specs.Scan.{none, more}
 use Rattle.moving.proofs.Ways as ways
 use Rattle.moving.proofs.Ways.{SoFar, begin, then_call, ends_ok, ends_call, unmade}
 use Rattle.moving.proofs.Carries.{carry_self, carry_twice, carries_has}

@@ -1,4 +1,4 @@
-use Rattle.std.proofs.Common.{◌≡◌, ℕ, ◌+◌, ◌-◌, ◌*◌, ◌≤◌, Bool, true, List, [], Some}
+use Rattle.std.proofs.Common.{◌≡◌, ◌+◌, ◌-◌, ◌*◌, ◌≤◌, Bool, true, List, [], Some}
 use Rattle.window.specs.Pages.{Sound}
 use Rattle.moving.specs.declared.Node.{Node}
 use Rattle.moving.specs.Model.{moving, carrying}

@@ -1,4 +1,4 @@
-use Rattle.std.proofs.Common.{[], ◌∙◌, arith, rules}
+use Rattle.std.proofs.Common.{[], arith, rules}
 use Rattle.moving.proofs.Ways.{begin, fine, ends_err}
 use Rattle.moving.proofs.Carries.{sends_page}
 use Rattle.moving.proofs.state.Transfer.send_page.Goals as goal
