@@ -4,10 +4,10 @@ set -euo pipefail
 export LC_ALL=C
 
 root=$(cd -P "$(dirname "${BASH_SOURCE[0]}")/.." && pwd)
-cellar=${CELLAR:-$root/target/bin/cellar}
+cellar=${CELLAR:-$root/crates/cellar/out/cellar}
 
 if [[ ! -x $cellar ]]; then
-    echo "${0##*/}: no $cellar; 'rt check cellar' builds it" >&2
+    echo "${0##*/}: no $cellar; './play' builds it" >&2
     exit 1
 fi
 

@@ -1,10 +1,10 @@
 #!/usr/bin/env bash
-# Plays random scripts with target/bin/cellar and with bench/plain, which was written apart from it and tests each
+# Plays random scripts with crates/cellar/out/cellar and with bench/plain, which was written apart from it and tests each
 # stop, resume and put by itself. Both must print the same lines. Prints how many of each kind there were.
 #
 #     bench/compare.sh [PLAYS [SEED]]      2000 plays and seed 1, if not said otherwise
 #
-# CELLAR names another program in place of target/bin/cellar. Needs rustc.
+# CELLAR names another program in place of crates/cellar/out/cellar. Needs rustc.
 source "$(dirname "${BASH_SOURCE[0]}")/both.sh"
 plays=${1:-2000}
 seed=${2:-1}

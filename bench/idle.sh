@@ -1,10 +1,10 @@
 #!/usr/bin/env bash
-# How fast the proved hosts are: plays of 600 rounds with idle nodes, by target/bin/cellar and by the same loop in
+# How fast the proved hosts are: plays of 600 rounds with idle nodes, by crates/cellar/out/cellar and by the same loop in
 # plain Rust (bench/plain/main.rs), each on one core. Prints the least time of several runs of each, and the ratio.
 #
 #     bench/idle.sh [PLAYS [RUNS]]      3000 plays and 5 runs, if not said otherwise
 #
-# CELLAR names another program in place of target/bin/cellar. Needs rustc.
+# CELLAR names another program in place of crates/cellar/out/cellar. Needs rustc.
 source "$(dirname "${BASH_SOURCE[0]}")/both.sh"
 plays=${1:-3000}
 runs=${2:-5}
