@@ -1,9 +1,14 @@
 pub mod Acts
+pub mod Calms
 pub mod Carries
 pub mod Falls
 pub mod Heard
+pub mod Hearings
 pub mod Letters
+pub mod Lines
 pub mod Moves
+pub mod Paces
+pub mod Passes
 pub mod Promises
 pub mod Rounds
 pub mod Scans

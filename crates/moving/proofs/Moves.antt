@@ -131,13 +131,13 @@ still_lost true true l f g = no g refl
 still_lost true false l f g = ap (λ z. z || false) (f refl)
 still_lost false e l f g = no g refl
 
-in-hand : {l : List ℕ} {x : List (List ℕ)} (h : Host) → In l [] h → In l x h
-in-hand h (inl i) = elim i [ ]
-in-hand h (inr i) = inr i
+with_hand : {l : List ℕ} {x : List (List ℕ)} (h : Host) → In l [] h → In l x h
+with_hand h (inl i) = elim i [ ]
+with_hand h (inr i) = inr i
 
 pub fell : {m : ℕ} {x y : List (List ℕ)} {n o : Node} {u : View} (page : ℕ → List ℕ) (touched : ℕ → Bool) → Both m x y n o u → Both m [] y (fresh u.me false) o (fallen page touched u)
 fell {m = m} {x = x} {n = n} {o = o} {u = u} page touched h =
-    record { ours = record { me = refl; fit = record { sides = h.ours.fit.sides; some = h.ours.fit.some; few = h.ours.fit.few; lost = still_lost u.runs u.here u.lost h.ours.fit.lost }; guest = record { told = λ e. no e refl; runner = λ e f. no f (and_not u.runs u.here e); keeper = λ _ _ e f. no f (or_right u.hurt u.here e); running = λ x f. clash f tt; copying = λ x f. clash f tt; paused = λ x f. clash f tt; committed = λ x f. clash f tt; receiving = λ x f. clash f tt }; cells = record { copies = λ e. no e refl; asleep = λ _. refl; took = h.ours.cells.took; done = h.ours.cells.done; parity = h.ours.cells.parity; most = h.ours.cells.most; committed = λ x f. clash f tt; receiving = λ x f. clash f tt }; order = h.ours.order; commits = λ r f a b. let g : Given u = h.ours.commits r f a b in record { runs = ap (λ z. z && not u.here) g.runs; lost = ap₂ (λ l z. l || (z && u.here)) g.lost g.runs; here = g.here; wish = g.wish; same = g.same }; copy = record { carries = λ c f. none_some f; below = λ x f. clash f tt }; letters = λ l i. mine l (h.ours.letters l (in-hand u.mine i)) }; yours = record { me = h.yours.me; fit = record { sides = h.yours.fit.sides; some = h.yours.fit.some; few = h.yours.fit.few; lost = still_lost u.runs u.here u.lost h.ours.fit.lost }; guest = record { told = λ e. let z = a.told e in (ap₂ (λ r b. r && b) z.0 z.1, z.1, z.2); runner = λ e f. a.runner (and_left u.runs _ e) f; keeper = λ r l b f. a.keeper (and_un u.runs _ r f) (or_left u.lost _ l) (or_left u.hurt _ b) f; running = λ x f. let z = a.running x f in record { runs = ap₂ (λ r b. r && b) z.runs z.here; here = z.here; wanted = z.wanted; idle = z.idle }; copying = λ c f. let z = a.copying c f in record { runs = ap₂ (λ r b. r && b) z.runs z.here; here = z.here; wish = z.wish; told = z.told }; paused = λ x f. stands (a.paused x f); committed = λ x f k l. stands (a.committed x f k l); receiving = a.receiving }; cells = h.yours.cells; order = h.yours.order; commits = λ r f. clash f tt; copy = record { carries = λ c f. let k = h.yours.copy.carries c f in record { attempt = k.attempt; own = k.own; done = k.done; took = k.took; most = k.most; ways = k.ways; base = k.base; every = k.every; under = λ s g. clash g tt }; below = h.yours.copy.below }; letters = λ l i. theirs l (h.yours.letters l i) } }
+    record { ours = record { me = refl; fit = record { sides = h.ours.fit.sides; some = h.ours.fit.some; few = h.ours.fit.few; lost = still_lost u.runs u.here u.lost h.ours.fit.lost }; guest = record { told = λ e. no e refl; runner = λ e f. no f (and_not u.runs u.here e); keeper = λ _ _ e f. no f (or_right u.hurt u.here e); running = λ x f. clash f tt; copying = λ x f. clash f tt; paused = λ x f. clash f tt; committed = λ x f. clash f tt; receiving = λ x f. clash f tt }; cells = record { copies = λ e. no e refl; asleep = λ _. refl; took = h.ours.cells.took; done = h.ours.cells.done; parity = h.ours.cells.parity; most = h.ours.cells.most; committed = λ x f. clash f tt; receiving = λ x f. clash f tt }; order = h.ours.order; commits = λ r f a b. let g : Given u = h.ours.commits r f a b in record { runs = ap (λ z. z && not u.here) g.runs; lost = ap₂ (λ l z. l || (z && u.here)) g.lost g.runs; here = g.here; wish = g.wish; same = g.same }; copy = record { carries = λ c f. none_some f; below = λ x f. clash f tt }; letters = λ l i. mine l (h.ours.letters l (with_hand u.mine i)) }; yours = record { me = h.yours.me; fit = record { sides = h.yours.fit.sides; some = h.yours.fit.some; few = h.yours.fit.few; lost = still_lost u.runs u.here u.lost h.ours.fit.lost }; guest = record { told = λ e. let z = a.told e in (ap₂ (λ r b. r && b) z.0 z.1, z.1, z.2); runner = λ e f. a.runner (and_left u.runs _ e) f; keeper = λ r l b f. a.keeper (and_un u.runs _ r f) (or_left u.lost _ l) (or_left u.hurt _ b) f; running = λ x f. let z = a.running x f in record { runs = ap₂ (λ r b. r && b) z.runs z.here; here = z.here; wanted = z.wanted; idle = z.idle }; copying = λ c f. let z = a.copying c f in record { runs = ap₂ (λ r b. r && b) z.runs z.here; here = z.here; wish = z.wish; told = z.told }; paused = λ x f. stands (a.paused x f); committed = λ x f k l. stands (a.committed x f k l); receiving = a.receiving }; cells = h.yours.cells; order = h.yours.order; commits = λ r f. clash f tt; copy = record { carries = λ c f. let k = h.yours.copy.carries c f in record { attempt = k.attempt; own = k.own; done = k.done; took = k.took; most = k.most; ways = k.ways; base = k.base; every = k.every; under = λ s g. clash g tt }; below = h.yours.copy.below }; letters = λ l i. theirs l (h.yours.letters l i) } }
   where
     a : Guest o (flip u)
     a = h.yours.guest

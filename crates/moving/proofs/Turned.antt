@@ -17,6 +17,9 @@ use Rattle.moving.specs.Invariant.{Whole, Both, View, Legit, NotReceiving, flip}
 use Rattle.moving.proofs.Moves.{clash, receiving_same, none_some}
 use Rattle.moving.proofs.Letters.{wakes, woke, woke_committed, ack_legit, refuse_legit, taken_legit}
 use Rattle.moving.proofs.Steps.{seen}
+use Rattle.letter.specs.Words.{head}
+use Rattle.moving.specs.Calm.{Added, answer_head, reply_to, reply_of, SentIf}
+use Rattle.moving.proofs.Calms.{still_self}
 use Rattle.moving.proofs.Heard.{alone}
 
 -- CELLS stay while the guest writes
@@ -127,3 +130,14 @@ enough_for (Paused x) most w (inl e) = let r = w.0.room in omega arith
 enough_for (Paused x) most w (inr e) = none_some (sym e.0)
 enough_for (Committed x) most w (inl e) = omega arith
 enough_for (Committed x) most w (inr e) = let q = e.1 in omega arith
+
+-- WHAT THE OTHER GETS TO HEAR
+pub replied_none : (w : World) (n : Node) (t : ℕ) → n.asked ≡ Some t → None ≡ answer_in n.state t n.took → SentIf (reply_of n) w w
+replied_none w n t e f =
+    subst (λ a. SentIf (reply_to a n) w w) (sym e) (subst (λ a. SentIf (answer_head t a) w w) f (still_self w))
+
+pub nobody_asked : (w : World) (n : Node) → n.asked ≡ None → SentIf (reply_of n) w w
+nobody_asked w n e = subst (λ a. SentIf (reply_to a n) w w) (sym e) (still_self w)
+
+pub replied : {w v : World} (n : Node) (t : ℕ) (a : Answer) → n.asked ≡ Some t → Some a ≡ answer_in n.state t n.took → Added (head a.kind t a.place 0) w v → SentIf (reply_of n) w v
+replied {w = w} {v = v} n t a e f s = subst (λ b. SentIf (reply_to b n) w v) (sym e) (subst (λ b. SentIf (answer_head t b) w v) f s)

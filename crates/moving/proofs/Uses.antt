@@ -48,6 +48,10 @@ answered (Ok y) x f = let e = f refl in cc
 answered (Err d) x f = tt
 
 -- what holds if there is an answer
-pub if-made : {A : Type 0} (r : Result A Down) (P : Type 0) → (is_ok r ≡ true → P) → IfOk r (λ _. P)
-if-made (Ok y) P f = f refl
-if-made (Err d) P f = tt
+pub if_made : {A : Type 0} (r : Result A Down) (P : Type 0) → (is_ok r ≡ true → P) → IfOk r (λ _. P)
+if_made (Ok y) P f = f refl
+if_made (Err d) P f = tt
+
+pub both_made : {A : Type 0} (r : Result A Down) (P Q : A → Type 0) → IfOk r P → IfOk r Q → IfOk r (λ x. P x × Q x)
+both_made (Ok y) P Q a b = (a, b)
+both_made (Err d) P Q a b = tt

@@ -1,7 +1,10 @@
 pub mod Acted
+pub mod Calm
 pub mod Hosts
 pub mod Invariant
 pub mod Model
+pub mod Over
 pub mod Promise
 pub mod Scan
+pub mod Time
 pub mod Used

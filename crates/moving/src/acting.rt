@@ -1,7 +1,10 @@
 // What a node does by itself in its turn.
 ghost use Rattle.std.specs.Prelude.{◌≡◌, ℕ, ◌+◌, ◌-◌, ◌*◌, ◌%◌, ◌<◌, ◌≤◌, Bool, true, false, ◌||◌, List, [], is_ok, IfOk, Some, None, OnOk};
 ghost use Rattle.window.specs.Pages.{Sound};
+ghost use Rattle.letter.specs.Words.{head};
 ghost use Rattle.moving.specs.Used.{Soon, Used};
+ghost use Rattle.moving.specs.Calm.{Still, Added};
+ghost use Rattle.moving.specs.Over.{CopiesOver, RunOver, CopyOver, PauseOver, ActedOver};
 ghost use Rattle.moving.specs.Hosts.{me};
 ghost use Rattle.moving.specs.Model.{Tidy, on_state, on_top, Enough, ticked, afresh};
 ghost use Rattle.moving.specs.Acted.{Copies, New, RunDid, CopyDid, PauseDid, ActedIn, commits, said_again, took_for};
@@ -40,6 +43,7 @@ impl Node {
         ensures used { Used 1 (P.world w.old) (is_ok result) (P.world w.new) }
         ensures is { IfOk result (λ b. self.new ≡ on_state (State.Running (record { wanted = b })) self.old) }
         ensures value { IfOk result (λ b. b ≡ (x.wanted || (me (P.world w.old)).told)) }
+        ensures line { OnOk result (Still (P.world w.old) (P.world w.new)) }
         ensures keeps { Keeps 0 [] (on_state (State.Running x) self.old) (P.world w.old) result (λ _. self.new) (P.world w.new) }
     {
         if x.wanted {
@@ -62,6 +66,7 @@ impl Node {
         ensures is { IfOk result (λ c. self.new ≡ on_top c.attempt self.old.state self.old) }
         ensures new { IfOk result (λ c. Sound c.window × (c.window.len ≡ 0) × (self.old.top < c.attempt)) }
         ensures pass { IfOk result (λ c. New (P.world w.old).pages self.old c) }
+        ensures line { OnOk result (Still (P.world w.old) (P.world w.new)) }
         ensures keeps { Keeps 2 [] self.old (P.world w.old) result (λ c. on_state (State.Copying c) self.new) (P.world w.new) }
     {
         let t = next_attempt(self.top, self.me);
@@ -82,6 +87,7 @@ impl Node {
         ensures tidy { OnOk result (Tidy self.new) }
         ensures awake { OnOk result (self.new.awake ≡ true) }
         ensures is { OnOk result (RunDid (P.world w.old).pages most (me (P.world w.old)).told x (on_state State.Away self.old) self.new) }
+        ensures makes { OnOk result (RunOver (P.world w.old).pages most (me (P.world w.old)).told x (on_state State.Away self.old) (P.world w.old) self.new (P.world w.new)) }
         ensures keeps { Keeps 64 [] (on_state (State.Running x) self.old) (P.world w.old) result (λ _. self.new) (P.world w.new) }
     {
         if !self.wants(w, x)? {
@@ -104,6 +110,7 @@ impl Node {
         ensures tidy { OnOk result (Tidy self.new) }
         ensures awake { OnOk result (self.new.awake ≡ true) }
         ensures is { OnOk result (CopyDid (P.world w.old).pages most x (on_state State.Away self.old) self.new) }
+        ensures makes { OnOk result (CopyOver (P.world w.old).pages most x (on_state State.Away self.old) (P.world w.old) self.new (P.world w.new)) }
         ensures keeps { Keeps 62 [] (on_state (State.Copying x) self.old) (P.world w.old) result (λ _. self.new) (P.world w.new) }
     {
         if !x.is_over(w.pages()) {
@@ -140,6 +147,7 @@ impl Node {
         ensures tidy { OnOk result (Tidy self.new) }
         ensures awake { OnOk result (self.new.awake ≡ true) }
         ensures is { OnOk result (self.new ≡ commits x.transfer.attempt self.old) }
+        ensures line { OnOk result (Added (head Kind.Commit x.transfer.attempt 0 0) (P.world w.old) (P.world w.new)) }
         ensures keeps { Keeps 0 [] (on_state (State.Paused x) self.old) (P.world w.old) result (λ _. self.new) (P.world w.new) }
     {
         let attempt = x.transfer.attempt;
@@ -165,6 +173,7 @@ impl Node {
         ensures tidy { OnOk result (Tidy self.new) }
         ensures awake { OnOk result (self.new.awake ≡ true) }
         ensures is { OnOk result (Copies (P.world w.old).pages (most - 1) (ticked (afresh x.transfer)) (took_for x.transfer.attempt (on_state State.Away self.old)) self.new) }
+        ensures makes { OnOk result (CopiesOver (P.world w.old).pages (most - 1) (ticked (afresh x.transfer)) (took_for x.transfer.attempt (on_state State.Away self.old)) (P.world w.old) self.new (P.world w.new)) }
         ensures keeps { Keeps 62 [] (on_state (State.Paused x) self.old) (P.world w.old) result (λ _. self.new) (P.world w.new) }
     {
         let Paused {
@@ -191,6 +200,7 @@ impl Node {
         ensures tidy { OnOk result (Tidy self.new) }
         ensures awake { OnOk result (self.new.awake ≡ true) }
         ensures is { OnOk result (PauseDid (P.world w.old).pages most x (on_state State.Away self.old) self.new) }
+        ensures makes { OnOk result (PauseOver (P.world w.old).pages most x (on_state State.Away self.old) (P.world w.old) self.new (P.world w.new)) }
         ensures keeps { Keeps 62 [] (on_state (State.Paused x) self.old) (P.world w.old) result (λ _. self.new) (P.world w.new) }
     {
         if x.transfer.is_over(w.pages()) {
@@ -224,6 +234,7 @@ impl Node {
         ensures tidy { OnOk result (Tidy self.new) }
         ensures awake { OnOk result (self.new.awake ≡ true) }
         ensures is { OnOk result (self.new ≡ said_again x self.old) }
+        ensures line { OnOk result (Added (head Kind.Commit x.attempt 0 0) (P.world w.old) (P.world w.new)) }
         ensures keeps { Keeps 0 [] (on_state (State.Committed x) self.old) (P.world w.old) result (λ _. self.new) (P.world w.new) }
     {
         self.state = State::Committed(Committed {
@@ -246,6 +257,7 @@ impl Node {
         ensures tidy { OnOk result (Tidy self.new) }
         ensures awake { OnOk result (self.new.awake ≡ true) }
         ensures is { OnOk result (ActedIn (P.world w.old).pages most (me (P.world w.old)).told self.old.state (on_state State.Away self.old) self.new) }
+        ensures makes { OnOk result (ActedOver (P.world w.old).pages most (me (P.world w.old)).told self.old.state (on_state State.Away self.old) (P.world w.old) self.new (P.world w.new)) }
         ensures keeps { Keeps 64 [] self.old (P.world w.old) result (λ _. self.new) (P.world w.new) }
     {
         let state = std::mem::replace(&mut self.state, State::Away);

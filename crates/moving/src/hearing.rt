@@ -1,7 +1,8 @@
 // What each letter makes of a node.
-ghost use Rattle.std.specs.Prelude.{◌≡◌, ℕ, ◌+◌, ◌-◌, ◌*◌, ◌<◌, ◌≤◌, Bool, true, false, List, [], ◌∷◌, is_ok, IfOk, Some, None, OnOk};
+ghost use Rattle.std.specs.Prelude.{◌≡◌, ℕ, ◌+◌, ◌-◌, ◌*◌, ◌<◌, ◌≤◌, Bool, true, false, List, [], ◌∷◌, length, is_ok, IfOk, Some, None, OnOk};
 ghost use Rattle.letter.specs.Words.{spelt};
 ghost use Rattle.moving.specs.Used.{Soon, Used};
+ghost use Rattle.moving.specs.Calm.{row_here, Still, Hearing, HeardAll};
 ghost use Rattle.moving.specs.Model.{Tidy, Windowed, moving, begins, probed, received, taken, refused, refused_in, acked, acked_in, gone_in, on_state, heeded};
 ghost use Rattle.moving.specs.Acted.{Heard, OneHeard};
 ghost use Rattle.window.specs.Pages.{Sound};
@@ -34,6 +35,7 @@ impl Node {
         requires kind { l.now.kind ≡ Kind.Probe }
         ensures used { Used 1 (P.world w.old) (is_ok result) (P.world w.new) }
         ensures is { OnOk result (self.new ≡ probed l.now.attempt self.old) }
+        ensures line { OnOk result (Still (P.world w.old) (P.world w.new)) }
         ensures awake { OnOk result (self.new.awake ≡ true) }
         ensures tidy { OnOk result (Tidy self.new) }
         ensures keeps { Keeps 0 (spelt l.now ∷ []) self.old (P.world w.old) result (λ _. self.new) (P.world w.new) }
@@ -61,6 +63,7 @@ impl Node {
         requires kind { l.now.kind ≡ Kind.Page }
         ensures used { Used 1 (P.world w.old) (is_ok result) (P.world w.new) }
         ensures is { OnOk result (self.new ≡ received (P.world w.old).pages l.now self.old) }
+        ensures line { OnOk result (Still (P.world w.old) (P.world w.new)) }
         ensures awake { OnOk result (self.new.awake ≡ true) }
         ensures tidy { OnOk result (Tidy self.new) }
         ensures keeps { Keeps 0 (spelt l.now ∷ []) self.old (P.world w.old) result (λ _. self.new) (P.world w.new) }
@@ -89,6 +92,7 @@ impl Node {
         requires kind { l.now.kind ≡ Kind.Commit }
         ensures used { Used 1 (P.world w.old) (is_ok result) (P.world w.new) }
         ensures is { OnOk result (self.new ≡ taken l.now.attempt self.old) }
+        ensures line { OnOk result (Still (P.world w.old) (P.world w.new)) }
         ensures awake { OnOk result (self.new.awake ≡ true) }
         ensures tidy { OnOk result (Tidy self.new) }
         ensures keeps { Keeps 0 (spelt l.now ∷ []) self.old (P.world w.old) result (λ _. self.new) (P.world w.new) }
@@ -116,6 +120,7 @@ impl Node {
         requires kind { l.now.kind ≡ Kind.Refuse }
         ensures used { Used 1 (P.world w.old) (is_ok result) (P.world w.new) }
         ensures is { OnOk result (self.new ≡ refused l.now.attempt (on_state (State.Committed x) self.old)) }
+        ensures line { OnOk result (Still (P.world w.old) (P.world w.new)) }
         ensures awake { OnOk result (self.new.awake ≡ true) }
         ensures tidy { OnOk result (Tidy self.new) }
         ensures keeps { Keeps 0 (spelt l.now ∷ []) (on_state (State.Committed x) self.old) (P.world w.old) result (λ _. self.new) (P.world w.new) }
@@ -143,6 +148,7 @@ impl Node {
         requires ready { Ready 0 (spelt l.now ∷ []) (on_state (State.Paused x) self.old) (P.world w.old) }
         ensures used { Used 1 (P.world w.old) (is_ok result) (P.world w.new) }
         ensures is { OnOk result (self.new ≡ refused l.now.attempt (on_state (State.Paused x) self.old)) }
+        ensures line { OnOk result (Still (P.world w.old) (P.world w.new)) }
         ensures awake { OnOk result (self.new.awake ≡ true) }
         ensures tidy { OnOk result (Tidy self.new) }
         ensures keeps { Keeps 0 (spelt l.now ∷ []) (on_state (State.Paused x) self.old) (P.world w.old) result (λ _. self.new) (P.world w.new) }
@@ -167,6 +173,7 @@ impl Node {
         requires kind { l.now.kind ≡ Kind.Refuse }
         ensures used { Used 1 (P.world w.old) (is_ok result) (P.world w.new) }
         ensures is { OnOk result (self.new ≡ refused l.now.attempt self.old) }
+        ensures line { OnOk result (Still (P.world w.old) (P.world w.new)) }
         ensures awake { OnOk result (self.new.awake ≡ true) }
         ensures tidy { OnOk result (Tidy self.new) }
         ensures keeps { Keeps 0 (spelt l.now ∷ []) self.old (P.world w.old) result (λ _. self.new) (P.world w.new) }
@@ -195,6 +202,7 @@ impl Node {
         requires kind { l.now.kind ≡ Kind.Ack }
         ensures used { Used 1 (P.world w.old) (is_ok result) (P.world w.new) }
         ensures is { OnOk result (self.new ≡ on_state (acked_in l.now.attempt l.now.place self.old.state) self.old) }
+        ensures line { OnOk result (Still (P.world w.old) (P.world w.new)) }
         ensures awake { OnOk result (self.new.awake ≡ true) }
         ensures tidy { OnOk result (Tidy self.new) }
         ensures keeps { Keeps 0 (spelt l.now ∷ []) self.old (P.world w.old) result (λ _. self.new) (P.world w.new) }
@@ -213,6 +221,7 @@ impl Node {
         requires kind { l.now.kind ≡ Kind.Taken }
         ensures used { Used 1 (P.world w.old) (is_ok result) (P.world w.new) }
         ensures is { OnOk result (self.new ≡ on_state (gone_in l.now.attempt self.old.state) self.old) }
+        ensures line { OnOk result (Still (P.world w.old) (P.world w.new)) }
         ensures awake { OnOk result (self.new.awake ≡ true) }
         ensures tidy { OnOk result (Tidy self.new) }
         ensures keeps { Keeps 0 (spelt l.now ∷ []) self.old (P.world w.old) result (λ _. self.new) (P.world w.new) }
@@ -234,6 +243,7 @@ impl Node {
         requires ready { Ready 0 (spelt l.now ∷ []) self.old (P.world w.old) }
         ensures used { Used 1 (P.world w.old) (is_ok result) (P.world w.new) }
         ensures is { OnOk result (self.new ≡ heeded (P.world w.old).pages l.now self.old) }
+        ensures line { OnOk result (Still (P.world w.old) (P.world w.new)) }
         ensures awake { OnOk result (self.new.awake ≡ true) }
         ensures tidy { OnOk result (Tidy self.new) }
         ensures keeps { Keeps 0 (spelt l.now ∷ []) self.old (P.world w.old) result (λ _. self.new) (P.world w.new) }
@@ -260,6 +270,8 @@ impl Node {
         ensures tidy { OnOk result (Tidy self.new) }
         ensures idle { OnOk result (moving self.old.state ≡ None → moving self.new.state ≡ None) }
         ensures is { IfOk result (λ k. OneHeard (P.world w.old).pages k self.old self.new) }
+        ensures line { IfOk result (λ k. Hearing (P.world w.old).pages self.old (P.world w.old) k self.new (P.world w.new)) }
+        ensures none { IfOk result (λ k. k ≡ 0 → (P.world w.new).rough ≡ false → row_here (P.world w.new) ≡ []) }
         ensures keeps { Keeps 0 [] self.old (P.world w.old) result (λ _. self.new) (P.world w.new) }
     {
         let mut words = [0u64; 72];
@@ -286,6 +298,8 @@ impl Node {
         ensures tidy { OnOk result (Tidy self.new) }
         ensures idle { OnOk result (moving self.old.state ≡ None → moving self.new.state ≡ None) }
         ensures is { OnOk result (Heard (P.world w.old).pages self.old self.new) }
+        ensures line { OnOk result (HeardAll (P.world w.old).pages self.old (P.world w.old) self.new (P.world w.new)) }
+        ensures cost { IfOk result (λ left. (P.world w.new).rough ≡ false → most ≤ left + 2 * length (row_here (P.world w.old)) + 1) }
         ensures keeps { Keeps 0 [] self.old (P.world w.old) result (λ _. self.new) (P.world w.new) }
     {
         let mut left = most;

@@ -7,6 +7,7 @@ ghost use Rattle.moving.specs.Promise.{OneTruth, LostStays};
 ghost use Rattle.moving.specs.Model.{Rested};
 ghost use Rattle.moving.specs.Invariant.{fresh, Ready, Keeps};
 ghost use Rattle.moving.specs.Acted.{Turned};
+ghost use Rattle.moving.specs.Over.{TurnedOver};
 
 // The host has fallen: nothing that it knows is left but its cells.
 #[derive(Clone, Copy)]
@@ -150,6 +151,7 @@ impl Node {
         ensures only { is_ok result ≡ not (P.world w.new).fell }
         ensures rested { OnOk result (Rested self.new) }
         ensures is { OnOk result (Turned (P.world w.old) self.old self.new) }
+        ensures makes { OnOk result (TurnedOver (P.world w.old) self.old self.new (P.world w.new)) }
         ensures keeps { Keeps 64 [] self.old (P.world w.old) result (λ _. self.new) (P.world w.new) }
     {
         let left = self.wake(w)?;

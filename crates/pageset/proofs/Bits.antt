@@ -139,16 +139,16 @@ ones_count (suc k) n h =
     let all : count (bit_of n) (suc k) ≡ count (bit_of n) (1 + k) = ap (count (bit_of n)) (sym (one-add k)) in
     omega (arith, ones_step n, i, rest, lowest n, all, count_add (bit_of n) 1 k)
 
-in-word : (xs : List ℕ) (i q : ℕ) → q < 64 → bit_at xs (64 * i + q) ≡ bit_of (get_or xs i 0) q
+in_word : (xs : List ℕ) (i q : ℕ) → q < 64 → bit_at xs (64 * i + q) ≡ bit_of (get_or xs i 0) q
 unfolding bit_at
-in-word xs i q h =
+in_word xs i q h =
     let d : (64 * i + q) / 64 ≡ i = omega arith in
     let m : (64 * i + q) % 64 ≡ q = omega arith in rw (d, m)
 
 pub words_more : (xs : List ℕ) (i : ℕ) → get_or xs i 0 < 2 ^ 64 → count (bit_at xs) (64 * (i + 1)) ≡ count (bit_at xs) (64 * i) + ones (get_or xs i 0)
 words_more xs i h =
     let e : 64 * (i + 1) ≡ 64 * i + 64 = omega arith in
-    let s = count_same (bit_of (get_or xs i 0)) (λ q. bit_at xs (64 * i + q)) 64 (λ q l. in-word xs i q l) in
+    let s = count_same (bit_of (get_or xs i 0)) (λ q. bit_at xs (64 * i + q)) 64 (λ q l. in_word xs i q l) in
     ap (count (bit_at xs)) e ∙ count_add (bit_at xs) (64 * i) 64 ∙ ap (λ (n : ℕ). count (bit_at xs) (64 * i) + n) (s ∙ sym (ones_count 64 (get_or xs i 0) h))
 
 pub words_most : (xs : List ℕ) (i : ℕ) → get_or xs i 0 < 2 ^ 64 → count (bit_at xs) (64 * i) + ones (get_or xs i 0) ≤ 64 * (i + 1)

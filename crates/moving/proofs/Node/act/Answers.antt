@@ -4,6 +4,9 @@ use Rattle.moving.specs.declared.state.State.TheVariants.{Away, Receiving, Runni
 use Rattle.moving.specs.Hosts.{me}
 use Rattle.moving.specs.Model.{Tidy, Enough, on_state}
 use Rattle.moving.specs.Acted.{ActedIn}
+use Rattle.moving.specs.Over.{ActedOver}
+use Rattle.moving.proofs.Calms.{still_self}
+use Rattle.moving.proofs.Uses.{both_made}
 use Rattle.moving.proofs.Ways.{SoFar, begin, ends_ok}
 use Rattle.moving.proofs.Heard.{put_back, used_more}
 use Rattle.moving.proofs.Acts.{acts}
@@ -16,6 +19,7 @@ returns-in-Running g c =
       tidy = c.run.ensures.tidy;
       awake = c.run.ensures.awake;
       is = subst (λ s. IfOk c.run.result (λ _. ActedIn (g.P.Place.world c.args.w.now).pages c.args.most (me (g.P.Place.world c.args.w.now)).told s (on_state Away c.args.self.now) c.run.new.self)) c.in-Running.ensures.value c.run.ensures.is;
+      makes = subst (λ s. IfOk c.run.result (λ _. ActedOver (g.P.Place.world c.args.w.now).pages c.args.most (me (g.P.Place.world c.args.w.now)).told s (on_state Away c.args.self.now) (g.P.Place.world c.args.w.now) c.run.new.self (g.P.Place.world c.run.new.w))) c.in-Running.ensures.value c.run.ensures.makes;
       keeps = acts c.args.self.now (Running c.in-Running.x) (sym c.in-Running.ensures.value) c.requires.soon.up c.run.ensures.keeps (omega arith);
     }
 
@@ -26,6 +30,7 @@ returns-in-Copying g c =
       tidy = c.copy.ensures.tidy;
       awake = c.copy.ensures.awake;
       is = subst (λ s. IfOk c.copy.result (λ _. ActedIn (g.P.Place.world c.args.w.now).pages c.args.most (me (g.P.Place.world c.args.w.now)).told s (on_state Away c.args.self.now) c.copy.new.self)) c.in-Copying.ensures.value c.copy.ensures.is;
+      makes = subst (λ s. IfOk c.copy.result (λ _. ActedOver (g.P.Place.world c.args.w.now).pages c.args.most (me (g.P.Place.world c.args.w.now)).told s (on_state Away c.args.self.now) (g.P.Place.world c.args.w.now) c.copy.new.self (g.P.Place.world c.copy.new.w))) c.in-Copying.ensures.value c.copy.ensures.makes;
       keeps = acts c.args.self.now (Copying c.in-Copying.x) (sym c.in-Copying.ensures.value) c.requires.soon.up c.copy.ensures.keeps (omega arith);
     }
 
@@ -36,6 +41,7 @@ returns-in-Paused g c =
       tidy = c.pause.ensures.tidy;
       awake = c.pause.ensures.awake;
       is = subst (λ s. IfOk c.pause.result (λ _. ActedIn (g.P.Place.world c.args.w.now).pages c.args.most (me (g.P.Place.world c.args.w.now)).told s (on_state Away c.args.self.now) c.pause.new.self)) c.in-Paused.ensures.value c.pause.ensures.is;
+      makes = subst (λ s. IfOk c.pause.result (λ _. ActedOver (g.P.Place.world c.args.w.now).pages c.args.most (me (g.P.Place.world c.args.w.now)).told s (on_state Away c.args.self.now) (g.P.Place.world c.args.w.now) c.pause.new.self (g.P.Place.world c.pause.new.w))) c.in-Paused.ensures.value c.pause.ensures.makes;
       keeps = acts c.args.self.now (Paused c.in-Paused.x) (sym c.in-Paused.ensures.value) c.requires.soon.up c.pause.ensures.keeps (omega arith);
     }
 
@@ -47,6 +53,7 @@ returns-in-Committed g c =
       tidy = c.say_again.ensures.tidy;
       awake = c.say_again.ensures.awake;
       is = subst (λ s. IfOk c.say_again.result (λ _. ActedIn (g.P.Place.world c.args.w.now).pages c.args.most (me (g.P.Place.world c.args.w.now)).told s (on_state Away c.args.self.now) c.say_again.new.self)) c.in-Committed.ensures.value c.say_again.ensures.is;
+      makes = subst (λ s. IfOk c.say_again.result (λ _. ActedOver (g.P.Place.world c.args.w.now).pages c.args.most (me (g.P.Place.world c.args.w.now)).told s (on_state Away c.args.self.now) (g.P.Place.world c.args.w.now) c.say_again.new.self (g.P.Place.world c.say_again.new.w))) c.in-Committed.ensures.value (both_made c.say_again.result _ _ c.say_again.ensures.is c.say_again.ensures.line);
       keeps = acts c.args.self.now (Committed c.in-Committed.x) (sym c.in-Committed.ensures.value) c.requires.soon.up c.say_again.ensures.keeps (omega arith);
     }
 
@@ -59,6 +66,7 @@ returns-in-Receiving g c =
       tidy = subst⁻¹ Tidy q c.requires.tidy;
       awake = c.requires.awake;
       is = subst (λ s. ActedIn (g.P.Place.world c.args.w.now).pages c.args.most (me (g.P.Place.world c.args.w.now)).told s (on_state Away c.args.self.now) (on_state (Receiving c.in-Receiving.x) c.args.self.now)) v refl;
+      makes = subst (λ s. ActedOver (g.P.Place.world c.args.w.now).pages c.args.most (me (g.P.Place.world c.args.w.now)).told s (on_state Away c.args.self.now) (g.P.Place.world c.args.w.now) (on_state (Receiving c.in-Receiving.x) c.args.self.now) (g.P.Place.world c.args.w.now)) v (refl, still_self _);
       keeps = ends_ok 64 (omega arith) (subst⁻¹ (λ k. SoFar [] c.args.self.now (g.P.Place.world c.args.w.now) 0 [] k (g.P.Place.world c.args.w.now)) q (begin [] c.args.self.now (g.P.Place.world c.args.w.now) c.requires.soon.up));
     }
 
@@ -71,5 +79,6 @@ returns-in-Away g c =
       tidy = subst⁻¹ Tidy q c.requires.tidy;
       awake = c.requires.awake;
       is = subst (λ s. ActedIn (g.P.Place.world c.args.w.now).pages c.args.most (me (g.P.Place.world c.args.w.now)).told s (on_state Away c.args.self.now) (on_state c.replace-state.new.dest c.args.self.now)) v (ap (λ s. on_state s c.args.self.now) c.replace-state.ensures.after);
+      makes = subst (λ s. ActedOver (g.P.Place.world c.args.w.now).pages c.args.most (me (g.P.Place.world c.args.w.now)).told s (on_state Away c.args.self.now) (g.P.Place.world c.args.w.now) (on_state c.replace-state.new.dest c.args.self.now) (g.P.Place.world c.args.w.now)) v (ap (λ s. on_state s c.args.self.now) c.replace-state.ensures.after, still_self _);
       keeps = ends_ok 64 (omega arith) (subst⁻¹ (λ k. SoFar [] c.args.self.now (g.P.Place.world c.args.w.now) 0 [] k (g.P.Place.world c.args.w.now)) q (begin [] c.args.self.now (g.P.Place.world c.args.w.now) c.requires.soon.up));
     }

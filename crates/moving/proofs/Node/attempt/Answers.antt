@@ -12,6 +12,7 @@ returns-in_err-keep g c =
     let t = c.new-transfer.ensures in
     let a = c.next_attempt-t.ensures in
     record {
+      line = unmade _ _ e;
       used = search rules;
       is = unmade _ _ e;
       new = unmade _ _ e;
@@ -27,6 +28,7 @@ returns g c =
     let t = c.new-transfer.ensures in
     let a = c.next_attempt-t.ensures in
     record {
+      line = c.in_ok-keep.ensures.line;
       used = search rules;
       is = ap (λ a. on_top a n.state n) (sym t.attempt);
       new = (t.window.0, t.window.1.0, search rules);

@@ -2,6 +2,7 @@ use Rattle.std.proofs.Common.{true, [], refl, arith, rules}
 use Rattle.moving.specs.declared.state.Committed.{Committed as Commitment}
 use Rattle.moving.specs.declared.state.State.TheVariants.{Paused}
 use Rattle.moving.specs.Model.{on_state}
+use Rattle.moving.proofs.Calms.{still_added}
 use Rattle.moving.proofs.Ways.{unmade, begin, fine, then_ok, ends_ok, ends_err}
 use Rattle.moving.proofs.Acts.{settle_whole, tells, tells_err}
 use Rattle.moving.proofs.Node.commit.Goals as goal
@@ -11,6 +12,7 @@ returns-in_err-commit g c =
     let e = c.from_residual.ensures.0 in
     let w = g.P.Place.world c.args.w.now in
     record {
+      line = unmade _ _ e;
       used = search rules;
       tidy = unmade _ _ e;
       awake = unmade _ _ e;
@@ -24,6 +26,7 @@ returns-in_err-tell g c =
     let w = g.P.Place.world c.args.w.now in
     let z : Commitment = record { attempt = c.args.x.transfer.attempt; mine = true; turns = 1 } in
     record {
+      line = unmade _ _ e;
       used = search rules;
       tidy = unmade _ _ e;
       awake = unmade _ _ e;
@@ -36,6 +39,7 @@ returns g c =
     let w = g.P.Place.world c.args.w.now in
     let z : Commitment = record { attempt = c.args.x.transfer.attempt; mine = true; turns = 1 } in
     record {
+      line = still_added _ c.in_ok-commit.ensures.line c.in_ok-tell.ensures.line;
       used = search rules;
       tidy = record { windowed = tt; asked = c.requires.tidy.asked };
       awake = c.requires.awake;

@@ -7,6 +7,9 @@ use Rattle.moving.specs.declared.state.State.TheVariants.{Copying, Paused}
 use Rattle.moving.specs.Model.{on_state, ticked, anew}
 use Rattle.moving.specs.Scan.{GoneOn}
 use Rattle.moving.specs.Acted.{on, again, stops}
+use Rattle.moving.specs.Over
+use Rattle.moving.specs.Calm.{Within, Went}
+use Rattle.moving.proofs.Passes.{went_after}
 use Rattle.moving.proofs.Ways as ways
 use Rattle.moving.proofs.Ways.{unmade, begin, fine, then_ok, then_call, ends_ok, ends_err, ends_call}
 use Rattle.moving.proofs.Acts.{ticks, ticks_anew, gone_attempt, stop_anew}
@@ -35,6 +38,7 @@ returns-in_err-go_on g c =
       tidy = unmade _ _ e;
       awake = unmade _ _ e;
       is = unmade _ _ e;
+      makes = unmade _ _ e;
       keeps = ends_call 62 _ c.from_residual.result e (ticks n c.args.x y c.tick-y.ensures c.requires.soon.up) (c.in_err-go_on.ensures.keeps (on_state (Copying y) n) refl) (omega arith);
     }
 
@@ -47,6 +51,7 @@ returns-then-not-is_over g c =
       tidy = record { windowed = c.in_ok-go_on.ensures.sound; asked = c.requires.tidy.asked };
       awake = c.requires.awake;
       is = on (search rules) (record { after = c.go_on.new.self; goes = subst (λ d. GoneOn (g.P.Place.world c.args.w.now).pages c.args.most d c.go_on.new.self) c.tick-y.ensures c.in_ok-go_on.ensures.is; node = refl });
+      makes = Over.CopyOver.on (search rules) (record { after = c.go_on.new.self; goes = subst (λ d. GoneOn (g.P.Place.world c.args.w.now).pages c.args.most d c.go_on.new.self) c.tick-y.ensures c.in_ok-go_on.ensures.is; within = subst (λ d. Within (g.P.Place.world c.args.w.now).pages d c.go_on.new.self) c.tick-y.ensures c.in_ok-go_on.ensures.within; went = subst (λ d. Went d (g.P.Place.world c.args.w.now) c.go_on.new.self (g.P.Place.world c.go_on.new.w)) c.tick-y.ensures c.in_ok-go_on.ensures.line.0; node = refl });
       keeps = ends_ok 62 (omega arith) (then_call (ticks n c.args.x y c.tick-y.ensures c.requires.soon.up) c.in_ok-go_on.ensures.used.fell (c.in_ok-go_on.ensures.keeps (on_state (Copying y) n) refl));
     }
 
@@ -73,6 +78,7 @@ returns-in_err-go_on-2 g c =
       tidy = unmade _ _ e;
       awake = unmade _ _ e;
       is = unmade _ _ e;
+      makes = unmade _ _ e;
       keeps = ends_call 62 _ c.from_residual-in_err-go_on-2.result e (ticks_anew n c.args.x y (c.tick-y-2.ensures ∙ ap ticked c.anew.ensures) c.requires.soon.up) (c.in_err-go_on-2.ensures.keeps (on_state (Copying y) n) refl) (omega arith);
     }
 
@@ -85,6 +91,7 @@ returns-then-y-gt-LONG_PASS g c =
       tidy = record { windowed = c.in_ok-go_on-2.ensures.sound; asked = c.requires.tidy.asked };
       awake = c.requires.awake;
       is = again (search rules) (search rules) (record { after = c.go_on-then-y-gt-LONG_PASS.new.self; goes = subst (λ d. GoneOn (g.P.Place.world c.args.w.now).pages c.args.most d c.go_on-then-y-gt-LONG_PASS.new.self) (c.tick-y-2.ensures ∙ ap ticked c.anew.ensures) c.in_ok-go_on-2.ensures.is; node = refl });
+      makes = Over.CopyOver.again (search rules) (search rules) (record { after = c.go_on-then-y-gt-LONG_PASS.new.self; goes = subst (λ d. GoneOn (g.P.Place.world c.args.w.now).pages c.args.most d c.go_on-then-y-gt-LONG_PASS.new.self) (c.tick-y-2.ensures ∙ ap ticked c.anew.ensures) c.in_ok-go_on-2.ensures.is; within = subst (λ d. Within (g.P.Place.world c.args.w.now).pages d c.go_on-then-y-gt-LONG_PASS.new.self) (c.tick-y-2.ensures ∙ ap ticked c.anew.ensures) c.in_ok-go_on-2.ensures.within; went = subst (λ d. Went d (g.P.Place.world c.args.w.now) c.go_on-then-y-gt-LONG_PASS.new.self (g.P.Place.world c.go_on-then-y-gt-LONG_PASS.new.w)) (c.tick-y-2.ensures ∙ ap ticked c.anew.ensures) c.in_ok-go_on-2.ensures.line.0; node = refl });
       keeps = ends_ok 62 (omega arith) (then_call (ticks_anew n c.args.x y (c.tick-y-2.ensures ∙ ap ticked c.anew.ensures) c.requires.soon.up) c.in_ok-go_on-2.ensures.used.fell (c.in_ok-go_on-2.ensures.keeps (on_state (Copying y) n) refl));
     }
 
@@ -99,6 +106,7 @@ returns-in_err-right g c =
       tidy = unmade _ _ e;
       awake = unmade _ _ e;
       is = unmade _ _ e;
+      makes = unmade _ _ e;
       keeps = ends_err 62 0 _ c.from_residual-in_err-right.result e (omega arith) (begin [] (on_state (Copying c.args.x) n) (g.P.Place.world c.args.w.now) c.requires.soon.up) c.in_err-right.ensures.does (fine (λ i m o h. stop_anew n c.args.x z (c.tick-y-2.ensures ∙ ap ticked c.anew.ensures) h));
     }
 
@@ -127,6 +135,7 @@ returns-in_err-go_on-3 g c =
       tidy = unmade _ _ e;
       awake = unmade _ _ e;
       is = unmade _ _ e;
+      makes = unmade _ _ e;
       keeps = ends_call 62 _ c.from_residual-in_err-go_on-3.result e (then_ok 0 (begin [] (on_state (Copying c.args.x) n) (g.P.Place.world c.args.w.now) c.requires.soon.up) c.in_ok-right.ensures.does refl (fine (λ i m o h. stop_anew n c.args.x z (c.tick-y-2.ensures ∙ ap ticked c.anew.ensures) h))) (c.in_err-go_on-3.ensures.keeps (on_state (Paused z) n) refl) (omega arith);
     }
 
@@ -134,11 +143,13 @@ pub returns : goal.returns
 returns g c =
     let n = c.args.self.now in
     let y = c.tick-y-2.result in
+    let k = c.in_ok-right.ensures in
     let z : Pause = record { transfer = y; right = c.in_ok-right.right; turns = 1 } in
     record {
       used = search rules;
       tidy = record { windowed = (c.in_ok-go_on-3.ensures.sound, c.in_ok-right.ensures.right ∙ sym (gone_attempt c.in_ok-go_on-3.ensures.is)); asked = c.requires.tidy.asked };
       awake = c.requires.awake;
       is = stops (search rules) (search rules) (record { after = c.go_on-2.new.self; goes = subst (λ d. GoneOn (g.P.Place.world c.args.w.now).pages (c.args.most - 1) d c.go_on-2.new.self) (c.tick-y-2.ensures ∙ ap ticked c.anew.ensures) (subst (λ p. GoneOn p (c.args.most - 1) y c.go_on-2.new.self) c.in_ok-right.ensures.used.pages c.in_ok-go_on-3.ensures.is); node = search rules });
+      makes = Over.CopyOver.stops (search rules) (search rules) (record { after = c.go_on-2.new.self; goes = subst (λ d. GoneOn (g.P.Place.world c.args.w.now).pages (c.args.most - 1) d c.go_on-2.new.self) (c.tick-y-2.ensures ∙ ap ticked c.anew.ensures) (subst (λ p. GoneOn p (c.args.most - 1) y c.go_on-2.new.self) c.in_ok-right.ensures.used.pages c.in_ok-go_on-3.ensures.is); within = subst (λ d. Within (g.P.Place.world c.args.w.now).pages d c.go_on-2.new.self) (c.tick-y-2.ensures ∙ ap ticked c.anew.ensures) (subst (λ p. Within p y c.go_on-2.new.self) c.in_ok-right.ensures.used.pages c.in_ok-go_on-3.ensures.within); went = subst (λ d. Went d (g.P.Place.world c.args.w.now) c.go_on-2.new.self (g.P.Place.world c.go_on-2.new.w)) (c.tick-y-2.ensures ∙ ap ticked c.anew.ensures) (went_after k.line.calmly k.used.pages k.line.own k.line.far c.in_ok-go_on-3.ensures.line.0); node = search rules });
       keeps = ends_ok 62 (omega arith) (then_call (then_ok 0 (begin [] (on_state (Copying c.args.x) n) (g.P.Place.world c.args.w.now) c.requires.soon.up) c.in_ok-right.ensures.does refl (fine (λ i m o h. stop_anew n c.args.x z (c.tick-y-2.ensures ∙ ap ticked c.anew.ensures) h))) c.in_ok-go_on-3.ensures.used.fell (c.in_ok-go_on-3.ensures.keeps (on_state (Paused z) n) refl));
     }

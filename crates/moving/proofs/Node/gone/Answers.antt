@@ -1,6 +1,7 @@
 use Rattle.std.proofs.Common.{[], ◌∷◌, arith, rules}
 use Rattle.letter.specs.Words.{spelt}
 use Rattle.moving.specs.declared.state.State.TheVariants.{Away}
+use Rattle.moving.proofs.Calms.{still_self}
 use Rattle.moving.proofs.Heard.{gone_whole, gone_is, gone_other_is, gone_none_is, tidy_to}
 use Rattle.moving.proofs.Ways.{begin, read, then_so, ends_ok, fine}
 use Rattle.moving.proofs.Node.gone.Goals as goal
@@ -8,6 +9,7 @@ use Rattle.moving.proofs.Node.gone.Goals as goal
 pub returns-in_default : goal.returns-in_default
 returns-in_default g c =
     record {
+      line = still_self _;
       used = search rules;
       is = gone_none_is c.args.self.now c.args.l.now.attempt c.in_default.not-Committed;
       awake = c.requires.awake;
@@ -18,6 +20,7 @@ returns-in_default g c =
 pub returns-then-x-l : goal.returns-then-x-l
 returns-then-x-l g c =
     record {
+      line = still_self _;
       used = search rules;
       is = gone_is c.args.self.now c.args.l.now.attempt c.in-Committed.x c.in-Committed.is c.if-x-l.true;
       awake = c.requires.awake;
@@ -28,6 +31,7 @@ returns-then-x-l g c =
 pub returns-else-x-l : goal.returns-else-x-l
 returns-else-x-l g c =
     record {
+      line = still_self _;
       used = search rules;
       is = gone_other_is c.args.self.now c.args.l.now.attempt c.in-Committed.x c.in-Committed.is c.if-x-l.false;
       awake = c.requires.awake;

@@ -3,6 +3,7 @@ use mathlib.Core.Path.{subst⁻¹}
 use Rattle.moving.specs.declared.Node.{Node}
 use Rattle.moving.specs.Model.{moving, heeded}
 use Rattle.moving.specs.Acted.{nothing, letter}
+use Rattle.moving.proofs.Hearings.{heard_none_at, none_left_at, heard_unread_at, heard_some_at}
 use Rattle.moving.proofs.Ways
 use Rattle.moving.proofs.Heard.{heard_letter, still_none}
 use Rattle.moving.proofs.Ways.{unmade, begin, got, got_err, then_call, ends_ok, ends_call, ready}
@@ -11,6 +12,8 @@ use Rattle.moving.proofs.Node.hear_one.Goals as goal
 pub returns-in_err-recv : goal.returns-in_err-recv
 returns-in_err-recv g c =
     record {
+      line = unmade c.from_residual.result _ c.from_residual.ensures.0;
+      none = unmade c.from_residual.result _ c.from_residual.ensures.0;
       used = search rules;
       one = unmade c.from_residual.result _ c.from_residual.ensures.0;
       awake = unmade c.from_residual.result _ c.from_residual.ensures.0;
@@ -23,6 +26,8 @@ returns-in_err-recv g c =
 pub returns-then-not-branch : goal.returns-then-not-branch
 returns-then-not-branch g c =
     record {
+      line = heard_none_at (g.P.Place.world c.args.w.now).pages c.args.self.now c.in_ok-recv.ensures.line c.if-not-branch.true;
+      none = λ z q. none_left_at c.in_ok-recv.ensures.line c.if-not-branch.true q;
       used = search rules;
       one = search rules;
       awake = c.requires.awake;
@@ -35,6 +40,8 @@ returns-then-not-branch g c =
 pub returns-in_default : goal.returns-in_default
 returns-in_default g c =
     record {
+      line = heard_unread_at (g.P.Place.world c.args.w.now).pages c.args.self.now c.in_ok-recv.ensures.line c.if-not-branch.false c.in_default.ensures;
+      none = λ z. absurd (omega arith);
       used = search rules;
       one = search rules;
       awake = c.requires.awake;
@@ -56,6 +63,8 @@ heed-requires g c =
 pub returns-in_err-heed : goal.returns-in_err-heed
 returns-in_err-heed g c =
     record {
+      line = unmade c.from_residual-in_err-heed.result _ c.from_residual-in_err-heed.ensures.0;
+      none = unmade c.from_residual-in_err-heed.result _ c.from_residual-in_err-heed.ensures.0;
       used = search rules;
       one = unmade c.from_residual-in_err-heed.result _ c.from_residual-in_err-heed.ensures.0;
       awake = unmade c.from_residual-in_err-heed.result _ c.from_residual-in_err-heed.ensures.0;
@@ -68,6 +77,8 @@ returns-in_err-heed g c =
 pub returns : goal.returns
 returns g c =
     record {
+      line = heard_some_at (g.P.Place.world c.args.w.now).pages _ c.args.self.now _ c.in-Some.l c.in_ok-recv.ensures.line c.if-not-branch.false c.in_ok-heed.ensures.line c.in_ok-recv.ensures.used.pages c.in-Some.ensures c.in_ok-heed.ensures.is;
+      none = λ z. absurd (omega arith);
       used = search rules;
       one = search rules;
       awake = c.in_ok-heed.ensures.awake;

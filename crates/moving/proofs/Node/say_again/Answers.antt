@@ -12,6 +12,7 @@ returns-in_err-tell g c =
     let e = c.from_residual.ensures.0 in
     let z : Commitment = recommit c.args.x c.saturating_add.result in
     record {
+      line = unmade _ _ e;
       used = search rules;
       tidy = unmade _ _ e;
       awake = unmade _ _ e;
@@ -23,6 +24,7 @@ pub returns : goal.returns
 returns g c =
     let z : Commitment = recommit c.args.x c.saturating_add.result in
     record {
+      line = c.in_ok-tell.ensures.line;
       used = search rules;
       tidy = record { windowed = tt; asked = c.requires.tidy.asked };
       awake = c.requires.awake;

@@ -1,7 +1,9 @@
 use Rattle.std.proofs.Common.{◌≡◌, ◌<◌, [], sym, refl, ap, ◌∙◌, arith, rules}
+use borrow.Author.Tests.{both_ways}
 use Rattle.std.proofs.lemmas.Bool.{cond-true, cond-false, eqb-true, ltb-true}
 use Rattle.moving.specs.declared.state.State.TheVariants.{Away}
 use Rattle.moving.specs.Model.{moving}
+use Rattle.moving.proofs.Calms.{still_self, still_then}
 use Rattle.moving.proofs.Ways.{begin, fine, then_ok, ends_ok, ends_err, unmade}
 use Rattle.moving.proofs.Turned.{step_cell, wake_whole, wake_committed_whole, nobody_asks, and_first, and_second, woken_is}
 use Rattle.moving.proofs.Node.wake.Goals as goal
@@ -10,7 +12,9 @@ pub returns-then-self : goal.returns-then-self
 returns-then-self g c =
     let n = c.args.self.now in
     record {
+      line = still_self _;
       used = search rules;
+      full = λ a. refl;
       rest = search rules;
       idle = λ lt. absurd (omega arith);
       is = sym (cond-true n.awake n _ c.if-self.true);
@@ -23,7 +27,9 @@ pub returns-in_err-took : goal.returns-in_err-took
 returns-in_err-took g c =
     let e = c.from_residual.ensures.0 in
     record {
+      line = unmade _ _ e;
       used = search rules;
+      full = unmade _ _ e;
       rest = unmade _ _ e;
       idle = unmade _ _ e;
       is = unmade _ _ e;
@@ -36,7 +42,9 @@ pub returns-in_err-top : goal.returns-in_err-top
 returns-in_err-top g c =
     let e = c.from_residual-in_err-top.ensures.0 in
     record {
+      line = unmade _ _ e;
       used = search rules;
+      full = unmade _ _ e;
       rest = unmade _ _ e;
       idle = unmade _ _ e;
       is = unmade _ _ e;
@@ -49,7 +57,9 @@ pub returns-in_err-committed : goal.returns-in_err-committed
 returns-in_err-committed g c =
     let e = c.from_residual-in_err-committed.ensures.0 in
     record {
+      line = unmade _ _ e;
       used = search rules;
+      full = unmade _ _ e;
       rest = unmade _ _ e;
       idle = unmade _ _ e;
       is = unmade _ _ e;
@@ -69,7 +79,9 @@ returns-then-not-committed-top g c =
     let gone = c.in_ok-committed.ensures.value in
     let asleep : n.state ≡ Away = c.requires.ready.whole.both.ours.cells.asleep c.if-self.false in
     record {
+      line = still_then (still_then c.in_ok-took.ensures.line c.in_ok-top.ensures.line) c.in_ok-committed.ensures.line;
       used = search rules;
+      full = λ a. absurd (both_ways n.awake c.if-self.false a);
       rest = search rules;
       idle = λ _. ap moving asleep;
       is = woken_is n c.if-self.false took (top ∙ step_cell d0 1) (gone ∙ step_cell d1 2 ∙ step_cell d0 2) _ (sym (cond-false _ _ _ c.if-not-committed-top.true));
@@ -92,7 +104,9 @@ returns g c =
     let same : c.in_ok-committed.committed ≡ c.in_ok-top.top = eqb-true _ _ (and_first _ _ (and_first _ _ test)) in
     let some : 0 < c.in_ok-top.top = ltb-true _ _ (and_second _ _ (and_first _ _ test)) in
     record {
+      line = still_then (still_then c.in_ok-took.ensures.line c.in_ok-top.ensures.line) c.in_ok-committed.ensures.line;
       used = search rules;
+      full = λ a. absurd (both_ways n.awake c.if-self.false a);
       rest = search rules;
       idle = λ _. refl;
       is = woken_is n c.if-self.false took (top ∙ step_cell d0 1) (gone ∙ step_cell d1 2 ∙ step_cell d0 2) _ (sym (cond-true _ _ _ test));

@@ -11,6 +11,7 @@ returns-in_err-told g c =
     let e = c.from_residual.ensures.0 in
     let w = g.P.Place.world c.args.w.now in
     record {
+      line = unmade _ _ e;
       used = search rules;
       is = unmade _ _ e;
       value = unmade _ _ e;
@@ -20,6 +21,7 @@ returns-in_err-told g c =
 pub returns : goal.returns
 returns g c =
     record {
+      line = c.in_ok-told.ensures.line;
       used = search rules;
       is = refl;
       value = search rules;

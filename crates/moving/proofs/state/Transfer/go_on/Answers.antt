@@ -1,6 +1,8 @@
 use Rattle.std.proofs.Common.{◌-◌, sym, refl, ◌∙◌, subst, arith, rules, eqb-true}
 use borrow.Author.Tests.{eqb-false}
+use Rattle.moving.specs.Calm.{Within}
 use Rattle.moving.specs.Scan.{Scanned}
+use Rattle.moving.proofs.Passes.{went_on, asked_none}
 use Rattle.moving.proofs.Ways as ways
 use Rattle.moving.proofs.Ways.{SoFar, begin, then_call, posted, posts_ends, ends_ok, ends_call, unmade, less_ready}
 use Rattle.moving.proofs.Carries.{probes, probes_err}
@@ -9,7 +11,7 @@ use Rattle.moving.proofs.state.Transfer.go_on.Goals as goal
 pub returns-in_err-tell : goal.returns-in_err-tell
 returns-in_err-tell g c =
     let e = c.from_residual.ensures.0 in
-    record { used = search rules; is = unmade _ _ e; sound = unmade _ _ e; keeps = probes_err c.args.self.now c.args.self.now c.from_residual.result e c.requires.soon.up c.in_err-tell.ensures.posts }
+    record { within = unmade _ _ e; line = unmade _ _ e; used = search rules; is = unmade _ _ e; sound = unmade _ _ e; keeps = probes_err c.args.self.now c.args.self.now c.from_residual.result e c.requires.soon.up c.in_err-tell.ensures.posts }
 
 pub resend-requires : goal.resend-requires
 resend-requires g c =
@@ -22,6 +24,8 @@ returns-in_err-resend g c =
     let x = c.args.self.now in
     let e = c.from_residual-in_err-resend.ensures.0 in
     record {
+      within = unmade _ _ e;
+      line = unmade _ _ e;
       used = search rules;
       is = unmade _ _ e;
       sound = unmade _ _ e;
@@ -33,6 +37,8 @@ returns-then-not-is_empty g c =
     let x = c.args.self.now in
     let ne = eqb-false x.window.len 0 (sym c.is_empty.ensures ∙ c.if-not-is_empty.true) in
     record {
+      within = λ h. h;
+      line = went_on c.in_ok-tell.ensures.line c.in_ok-tell.ensures.used.pages c.in_ok-resend.ensures.line c.in_ok-resend.ensures.asked;
       used = search rules;
       is = record { same = λ _. refl; goes = λ e. absurd (ne e) };
       sound = c.requires.sound;
@@ -55,6 +61,8 @@ returns-in_err-scan g c =
     let x = c.args.self.now in
     let e = c.from_residual-in_err-scan.ensures.0 in
     record {
+      within = unmade _ _ e;
+      line = unmade _ _ e;
       used = search rules;
       is = unmade _ _ e;
       sound = unmade _ _ e;
@@ -66,6 +74,8 @@ returns g c =
     let x = c.args.self.now in
     let z = eqb-true x.window.len 0 (sym c.is_empty.ensures ∙ c.if-not-is_empty.false) in
     record {
+      within = subst (λ p. Within p x c.scan.new.self) c.in_ok-tell.ensures.used.pages c.in_ok-scan.ensures.within;
+      line = went_on c.in_ok-tell.ensures.line c.in_ok-tell.ensures.used.pages c.in_ok-scan.ensures.line (λ a. c.in_ok-scan.ensures.asked (asked_none x _ z a));
       used = search rules;
       is = record { same = λ lt. absurd (omega arith); goes = λ _. subst (λ p. Scanned p (c.args.most - 1) x c.scan.new.self) c.in_ok-tell.ensures.used.pages c.in_ok-scan.ensures.is };
       sound = c.in_ok-scan.ensures.sound;

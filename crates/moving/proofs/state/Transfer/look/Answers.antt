@@ -1,11 +1,16 @@
-use Rattle.std.proofs.Common.{◌≡◌, ◌+◌, ◌-◌, true, false, ◌||◌, [], sym, refl, ap, ◌∙◌, subst, arith, rules}
+use Rattle.std.proofs.Common.{◌≡◌, ◌+◌, ◌-◌, true, false, ◌||◌, [], sym, refl, ap, ◌∙◌, subst, subst₂, arith, rules}
 use Rattle.std.proofs.lemmas.Bool.{cond-true, cond-false}
 use Rattle.pageset.specs.Member.{member}
 use Rattle.moving.specs.declared.state.Transfer.{Transfer}
 use Rattle.moving.specs.Hosts.{me}
 use Rattle.moving.specs.Model.{carrying}
 use Rattle.moving.specs.Invariant.{Pushed, slot}
-use Rattle.moving.specs.Scan.{due}
+use Rattle.moving.specs.Scan.{Looked, due}
+use Rattle.letter.specs.declared.Kind.TheVariants.{Page}
+use Rattle.letter.specs.Words.{head}
+use Rattle.moving.specs.Calm.{Added}
+use Rattle.moving.proofs.Calms.{calm_self}
+use Rattle.moving.proofs.Passes.{passed_look, asked_still, asked_sent}
 use Rattle.moving.proofs.Scans.{clear}
 use Rattle.moving.proofs.Ways.{SoFar, begin, fine, then_ok, then_call, ends_ok, ends_err_own, ends_call, unmade}
 use Rattle.moving.proofs.Carries.{pushed_by, push_carrying, skip_carrying, pushed_below, carries_has, carry_twice, or_false_left, or_false_right, skip_unsent, below_more, or_true, grown}
@@ -17,6 +22,8 @@ returns-in_err-touched g c =
     let e = c.from_residual.ensures.0 in
     record {
       used = search rules;
+      line = unmade _ _ e;
+      asked = unmade _ _ e;
       one = unmade _ _ e;
       is = unmade _ _ e;
       sound = unmade _ _ e;
@@ -31,18 +38,23 @@ returns-then-not-touched-unsent g c =
     let t : (me w).touched x.cursor ≡ false = sym c.in_ok-touched.ensures.value ∙ or_false_left _ _ none in
     let u : member x.unsent x.cursor ≡ false = sym c.has-unsent.ensures.is ∙ or_false_right _ _ none in
     let d : due ((me w).touched x.cursor) x ≡ false = ap (λ b. b || member x.unsent x.cursor) t ∙ u in
+    let y : Transfer = record { attempt = x.attempt; window = x.window; unsent = x.unsent; cursor = x.cursor + 1; sent = x.sent; turns = x.turns; prev = x.prev } in
+    let l : Looked ((me w).touched x.cursor) x y = record {
+      attempt = refl;
+      window = sym (cond-false _ _ _ d);
+      unsent = skip_unsent x.unsent x.cursor u;
+      cursor = refl;
+      sent = sym (cond-false _ _ _ d);
+      turns = refl;
+      prev = refl;
+    } in
+    let k = c.in_ok-touched.ensures in
     record {
       used = search rules;
       one = search rules;
-      is = record {
-        attempt = refl;
-        window = sym (cond-false _ _ _ d);
-        unsent = skip_unsent x.unsent x.cursor u;
-        cursor = refl;
-        sent = sym (cond-false _ _ _ d);
-        turns = refl;
-        prev = refl;
-      };
+      is = l;
+      line = passed_look c.requires.more k.used.pages refl k.does k.line.calmly k.line.rests k.line.own (calm_self _) (λ e. (e, refl)) refl l;
+      asked = λ a. asked_still _ _ x k.line.calmly k.line.far a;
       sound = (c.requires.sound, below_more x x.sent x.turns x.prev c.requires.below);
       keeps = λ n has. ends_ok 0 (omega arith) (then_ok 0 (begin [] n w c.requires.soon.up) c.in_ok-touched.ensures.does refl (fine (λ i z o h. skip_carrying x x.sent x.turns x.prev has t u h)));
     }
@@ -78,6 +90,8 @@ returns-in_err-send_page g c =
     let e = c.from_residual-in_err-send_page.ensures.0 in
     record {
       used = search rules;
+      line = unmade _ _ e;
+      asked = unmade _ _ e;
       one = unmade _ _ e;
       is = unmade _ _ e;
       sound = unmade _ _ e;
@@ -94,18 +108,27 @@ returns g c =
     let p : Pushed x d x.cursor = pushed_by x d c.requires.sound c.requires.room c.requires.below refl c.push-place.ensures.is c.remove.ensures in
     let some : (c.in_ok-touched.touched || c.has-unsent.result) ≡ true = c.if-not-touched-unsent.false in
     let u : due ((me w).touched x.cursor) x ≡ true = or_true _ _ _ _ c.in_ok-touched.ensures.value c.has-unsent.ensures.is some in
+    let l : Looked ((me w).touched x.cursor) x d = record {
+      attempt = refl;
+      window = c.push-place.ensures.is ∙ sym (cond-true _ _ _ u);
+      unsent = c.remove.ensures;
+      cursor = refl;
+      sent = c.saturating_add-self.ensures ∙ sym (cond-true _ _ _ u);
+      turns = refl;
+      prev = refl;
+    } in
+    let k = c.in_ok-touched.ensures in
+    let s = c.in_ok-send_page.ensures in
+    let base = p.base in
+    let place : c.push-place.result ≡ x.window.base + x.window.len = c.push-place.ensures.place in
+    let at : slot d (c.push-place.result - d.window.base) ≡ x.cursor = ap (slot d) (omega arith) ∙ p.last in
+    let sent : Added (head Page x.attempt (x.window.base + x.window.len) x.cursor) (g.P.Place.world c.touched.new.w) (g.P.Place.world c.send_page.new.w) = subst₂ (λ a b. Added (head Page x.attempt a b) (g.P.Place.world c.touched.new.w) (g.P.Place.world c.send_page.new.w)) place at s.line in
     record {
       used = search rules;
       one = search rules;
-      is = record {
-        attempt = refl;
-        window = c.push-place.ensures.is ∙ sym (cond-true _ _ _ u);
-        unsent = c.remove.ensures;
-        cursor = refl;
-        sent = c.saturating_add-self.ensures ∙ sym (cond-true _ _ _ u);
-        turns = refl;
-        prev = refl;
-      };
+      is = l;
+      line = passed_look c.requires.more k.used.pages s.used.pages k.does k.line.calmly k.line.rests k.line.own sent.calmly sent.rests sent.own l;
+      asked = λ a. asked_sent x d _ _ _ x.cursor c.requires.sound c.requires.room refl c.push-place.ensures.is k.line.calmly k.line.far sent a;
       sound = (c.push-place.ensures.sound, pushed_below x d c.requires.sound c.requires.room c.requires.below p refl);
       keeps = λ n has.
           ends_ok 1 (omega arith)

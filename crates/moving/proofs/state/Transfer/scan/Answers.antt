@@ -4,6 +4,7 @@ use Rattle.moving.specs.Model.{carrying}
 use Rattle.moving.specs.Scan.{none, more}
 use Rattle.moving.proofs.Ways as ways
 use Rattle.moving.proofs.Ways.{SoFar, begin, then_call, ends_ok, ends_call, unmade}
+use Rattle.moving.proofs.Passes.{passed_self, passed_then}
 use Rattle.moving.proofs.Carries.{carry_self, carry_twice, carries_has}
 use Rattle.moving.proofs.state.Transfer.scan.Goals as goal
 
@@ -19,6 +20,9 @@ loop-left-init g c =
       sound = c.requires.sound;
       below = λ k lt. absurd (omega arith);
       looks = record { answers = []; looks = none };
+      within = λ h. h;
+      line = passed_self x w;
+      asked = λ a. a;
       cost = omega arith;
       so = λ n has. ways.more x.window.len (omega arith) (subst (λ m. SoFar [] n w 0 [] m w) (sym (carry_self n x has)) (begin [] n w c.requires.soon.up));
     }
@@ -52,6 +56,9 @@ returns-in_err-k g c =
     record {
       used = search rules;
       is = unmade _ _ e;
+      within = unmade _ _ e;
+      line = unmade _ _ e;
+      asked = unmade _ _ e;
       sound = unmade _ _ e;
       keeps = λ n has. ends_call 62 _ c.from_residual.result e (i.so n has) (c.in_err-k.ensures.keeps (carrying x n) (carries_has n.state c.args.self.now x has)) (omega arith);
     }
@@ -73,6 +80,9 @@ loop-left-preserved g c =
       sound = l.sound.0;
       below = l.sound.1;
       looks = record { answers = _; looks = more _ _ _ _ i.looks.looks l.is };
+      within = λ h. search rules;
+      line = passed_then i.line l.line;
+      asked = λ a. l.asked (i.asked a);
       cost = omega arith;
       so = λ n has.
           ways.more y.window.len (omega arith)
@@ -84,16 +94,16 @@ pub returns-else-self-pages : goal.returns-else-self-pages
 returns-else-self-pages g c =
     let s = c.loop-left.invariant.sound.room in
     let paid = c.loop-left.invariant.cost in
-    record { used = search rules; is = record { answers = c.loop-left.invariant.looks.answers; looks = c.loop-left.invariant.looks.looks; cost = omega arith; ends = inr (inr (search rules)) }; sound = c.loop-left.invariant.sound; keeps = λ n has. ends_ok 62 (omega arith) (c.loop-left.invariant.so n has) }
+    record { used = search rules; within = λ h. search rules; line = c.loop-left.invariant.line; asked = c.loop-left.invariant.asked; is = record { answers = c.loop-left.invariant.looks.answers; looks = c.loop-left.invariant.looks.looks; cost = omega arith; ends = inr (inr (search rules)) }; sound = c.loop-left.invariant.sound; keeps = λ n has. ends_ok 62 (omega arith) (c.loop-left.invariant.so n has) }
 
 pub returns-else-not-is_full : goal.returns-else-not-is_full
 returns-else-not-is_full g c =
     let s = c.loop-left.invariant.sound.room in
     let paid = c.loop-left.invariant.cost in
-    record { used = search rules; is = record { answers = c.loop-left.invariant.looks.answers; looks = c.loop-left.invariant.looks.looks; cost = omega arith; ends = inr (inl (eqb-true c.loop-left.self.window.len 62 (sym c.is_full.ensures ∙ c.if-not-is_full.false))) }; sound = c.loop-left.invariant.sound; keeps = λ n has. ends_ok 62 (omega arith) (c.loop-left.invariant.so n has) }
+    record { used = search rules; within = λ h. search rules; line = c.loop-left.invariant.line; asked = c.loop-left.invariant.asked; is = record { answers = c.loop-left.invariant.looks.answers; looks = c.loop-left.invariant.looks.looks; cost = omega arith; ends = inr (inl (eqb-true c.loop-left.self.window.len 62 (sym c.is_full.ensures ∙ c.if-not-is_full.false))) }; sound = c.loop-left.invariant.sound; keeps = λ n has. ends_ok 62 (omega arith) (c.loop-left.invariant.so n has) }
 
 pub returns-after-loop-left : goal.returns-after-loop-left
 returns-after-loop-left g c =
     let s = c.loop-left.invariant.sound.room in
     let paid = c.loop-left.invariant.cost in
-    record { used = search rules; is = record { answers = c.loop-left.invariant.looks.answers; looks = c.loop-left.invariant.looks.looks; cost = omega arith; ends = inl (omega arith) }; sound = c.loop-left.invariant.sound; keeps = λ n has. ends_ok 62 (omega arith) (c.loop-left.invariant.so n has) }
+    record { used = search rules; within = λ h. search rules; line = c.loop-left.invariant.line; asked = c.loop-left.invariant.asked; is = record { answers = c.loop-left.invariant.looks.answers; looks = c.loop-left.invariant.looks.looks; cost = omega arith; ends = inl (omega arith) }; sound = c.loop-left.invariant.sound; keeps = λ n has. ends_ok 62 (omega arith) (c.loop-left.invariant.so n has) }

@@ -4,6 +4,7 @@ use Rattle.moving.specs.declared.Node.{Node}
 use Rattle.moving.specs.Model.{moving, carrying}
 use Rattle.moving.specs.Scan.{Below, Looks}
 use Rattle.moving.specs.Used.{Used}
+use Rattle.moving.specs.Calm.{Passed, Asked}
 use Rattle.moving.proofs.Ways.{SoFar}
 use Rattle.moving.proofs.state.Transfer.scan.Given as goal
 
@@ -16,6 +17,9 @@ invariant-loop-left g l =
       sound : Sound l.self.window;
       below : Below l.self;
       looks : record { answers : List Bool; looks : Looks l.initial.self answers l.self };
+      within : (l.initial.self.cursor ≤ l.pages → l.self.cursor ≤ l.pages);
+      line : Passed l.initial.self (g.P.Place.world l.initial.w) l.self (g.P.Place.world l.w);
+      asked : (Asked l.initial.self (g.P.Place.world l.initial.w) → Asked l.self (g.P.Place.world l.w));
       cost : l.left + l.self.cursor + 2 * l.self.window.len ≡ l.most + l.initial.self.cursor;
       so : ((n : Node) → moving n.state ≡ Some l.initial.self → SoFar [] n (g.P.Place.world l.initial.w) l.self.window.len [] (carrying l.self n) (g.P.Place.world l.w));
     }

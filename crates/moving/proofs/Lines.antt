@@ -21,7 +21,7 @@ use Rattle.moving.specs.declared.state.State.TheVariants.{Away, Receiving, Runni
 use Rattle.moving.specs.Hosts.{World, me}
 use Rattle.moving.specs.Model.{moving, on_state, on_top, asked_for, runs_again, begins, is_next, taken, refused_in, refused, acked_in, heeded, heeded_if, acked, woke, silent, answer_in, Windowed}
 use Rattle.moving.specs.Invariant.{View, Both, Whole, Carries, NotReceiving, end, flip, runner, keeper}
-use Rattle.moving.specs.Acted.{Turned, ActedIn, RunDid, RunDid.stays, RunDid.begins as starts, CopyDid.on, CopyDid.again, CopyDid.stops, PauseDid.settles, PauseDid.resumes as goes_Back, PauseDid.goes}
+use Rattle.moving.specs.Over.{TurnedOver, ActedOver, RunOver, RunOver.stays, RunOver.begins as starts, CopyOver.on, CopyOver.again, CopyOver.stops, PauseOver.settles, PauseOver.resumes as goes_back, PauseOver.goes}
 use Rattle.moving.specs.Calm.{Calmly, Still, Added, row_here, row_there, heads, hears, page_heads, asked_of, answer_head, reply_to, reply_of, SentIf}
 use Rattle.moving.specs.Time.{tries, asks, HasAsked, With, With.receives as in_step, With.soon, Acknowledged, Refused}
 use Rattle.moving.proofs.Moves.{no, clash}
@@ -215,7 +215,7 @@ record Calm (w v : World) : Type 0 where
   own : row_here v ≡ row_here w
 
 -- so is what a host does by itself
-acts_calm : (pages most : ℕ) (told : Bool) (s : State) (n : Node) (w : World) (m : Node) (v : World) → ActedIn pages most told s n w m v → Calm w v
+acts_calm : (pages most : ℕ) (told : Bool) (s : State) (n : Node) (w : World) (m : Node) (v : World) → ActedOver pages most told s n w m v → Calm w v
 acts_calm pages most told Away n w m v a = record { calmly = a.1.calmly; own = a.1.own }
 acts_calm pages most told (Receiving x) n w m v a = record { calmly = a.1.calmly; own = a.1.own }
 acts_calm pages most told (Running x) n w m v (stays e f k) = record { calmly = k.calmly; own = k.own }
@@ -224,7 +224,7 @@ acts_calm pages most told (Copying x) n w m v (on e k) = record { calmly = k.wen
 acts_calm pages most told (Copying x) n w m v (again e f k) = record { calmly = k.went.calmly; own = k.went.own }
 acts_calm pages most told (Copying x) n w m v (stops e f k) = record { calmly = k.went.calmly; own = k.went.own }
 acts_calm pages most told (Paused x) n w m v (settles e f k) = record { calmly = k.calmly; own = k.own }
-acts_calm pages most told (Paused x) n w m v (goes_Back e f k) = record { calmly = k.went.calmly; own = k.went.own }
+acts_calm pages most told (Paused x) n w m v (goes_back e f k) = record { calmly = k.went.calmly; own = k.went.own }
 acts_calm pages most told (Paused x) n w m v (goes e f k r) = record { calmly = k.went.calmly; own = k.went.own }
 acts_calm pages most told (Committed x) n w m v a = record { calmly = a.1.calmly; own = a.1.own }
 
@@ -235,7 +235,7 @@ sent_calm (Some h) w v k = record { calmly = k.calmly; own = k.own }
 
 -- What is known of each quiet turn: it was quiet all the time, all letters were heard, and none waits for the host after it.
 -- If the guest is still to be moved, it was all the time, and is where it was.
-pub record Quiet {w v : World} {n m : Node} (u : Turned w n m v) : Type 0 where
+pub record Quiet {w v : World} {n m : Node} (u : TurnedOver w n m v) : Type 0 where
   pub turn : v.turn ≡ w.turn
   pub first : u.quiet.turn ≡ w.turn
   pub early : u.quiet.rough ≡ false
@@ -245,12 +245,11 @@ pub record Quiet {w v : World} {n m : Node} (u : Turned w n m v) : Type 0 where
   pub wish : v.wish ≡ true → (u.quiet.wish ≡ true) × (u.quiet.last ≡ w.last) × (v.last ≡ w.last)
 
 -- that is so if the world isn't rough after it
-pub quiet : {i m : ℕ} {w v : World} {n l o : Node} (u : Turned w n l v) → Whole i m [] n o w → v.rough ≡ false → Quiet u
+pub quiet : {i m : ℕ} {w v : World} {n l o : Node} (u : TurnedOver w n l v) → Whole i m [] n o w → length (row_here w) ≤ 64 → v.rough ≡ false → Quiet u
 unfolding row_here
-quiet {w = w} {v = v} {n = n} u h q =
+quiet {w = w} {v = v} {n = n} u h few q =
     let a = acts_calm w.pages u.most (me u.quiet).told u.heard.state (on_state Away u.heard) u.quiet u.acted u.done u.acts in
     let b = sent_calm (reply_of u.acted) u.done v u.replies in
-    let few : length (row_here w) ≤ 64 = h.both.ours.fit.row in
     let late : u.done.rough ≡ false = b.calmly.rough q in
     let early : u.quiet.rough ≡ false = a.calmly.rough late in
     record {
@@ -413,8 +412,8 @@ told {n = n} {o = o} {u = u} r h e aw = go n.state refl
     go (Committed x) f a b = told_committed x r h e aw f (sym (same b))
 
 -- what a host does by itself, if its state is known
-acts_as : {w v : World} {n m : Node} (u : Turned w n m v) (s : State) → u.heard.state ≡ s → ActedIn w.pages u.most (me u.quiet).told s (on_state Away u.heard) u.quiet u.acted u.done
-acts_as {w = w} u s e = subst (λ (z : State). ActedIn w.pages u.most (me u.quiet).told z (on_state Away u.heard) u.quiet u.acted u.done) e u.acts
+acts_as : {w v : World} {n m : Node} (u : TurnedOver w n m v) (s : State) → u.heard.state ≡ s → ActedOver w.pages u.most (me u.quiet).told s (on_state Away u.heard) u.quiet u.acted u.done
+acts_as {w = w} u s e = subst (λ (z : State). ActedOver w.pages u.most (me u.quiet).told z (on_state Away u.heard) u.quiet u.acted u.done) e u.acts
 
 -- a letter that is sent where none waits
 row_one : (h : List ℕ) (w v : World) → Added h w v → v.rough ≡ false → row_there w ≡ [] → heads (row_there v) ≡ h ∷ []
@@ -422,7 +421,7 @@ unfolding heads
 row_one h w v a q e = a.far q (omega (arith, ap length e)) ∙ ap (λ (r : List (List ℕ)). heads r ++ h ∷ []) e
 
 -- who stays as it was when all letters were heard, and answers with the words h
-replied : {w v : World} {n m : Node} (u : Turned w n m v) (s : State) (h : List ℕ) → v.rough ≡ false → row_there w ≡ [] → u.acted ≡ on_state s (on_state Away u.heard) → Still u.quiet u.done → reply_of (on_state s u.heard) ≡ Some h → heads (row_there v) ≡ h ∷ []
+replied : {w v : World} {n m : Node} (u : TurnedOver w n m v) (s : State) (h : List ℕ) → v.rough ≡ false → row_there w ≡ [] → u.acted ≡ on_state s (on_state Away u.heard) → Still u.quiet u.done → reply_of (on_state s u.heard) ≡ Some h → heads (row_there v) ≡ h ∷ []
 replied {v = v} u s h q e a k r =
     row_one h u.done v (subst (λ (o : Option (List ℕ)). SentIf o u.done v) (ap reply_of a ∙ r) u.replies) q (k.far ∙ u.hears.far ∙ e)
 
@@ -435,12 +434,12 @@ refuse_reply : (n : Node) (t : ℕ) → n.asked ≡ Some t → n.took < t → re
 refuse_reply n t e l = rw (e, lt-leb t n.took l)
 
 -- THE ANSWER. It is asked, nothing waits for n, and after the turn one answer does: that the whole window is put, or that the attempt is over.
-pub answers : {i m : ℕ} {w v : World} {n o l : Node} (u : Turned w o l v) → Whole i m [] o n w → w.last ≡ 1 - w.turn → v.rough ≡ false → v.wish ≡ true → o.awake ≡ true → Windowed n.state → row_there w ≡ [] → HasAsked n.state (row_here w)
+pub answers : {i m : ℕ} {w v : World} {n o l : Node} (u : TurnedOver w o l v) → Whole i m [] o n w → length (row_here w) ≤ 64 → w.last ≡ 1 - w.turn → v.rough ≡ false → v.wish ≡ true → o.awake ≡ true → Windowed n.state → row_there w ≡ [] → HasAsked n.state (row_here w)
     → Acknowledged n l (row_there v) ⊎ (Refused n (row_there v) × (With n o → ⊥))
-answers {i = i} {m = m} {w = w} {v = v} {n = n} {o = o} {l = l} u h g q wi aw ww em ha = go (subst (Told n o) (sym (c.heard aw)) (told (row_here w) h.both away aw ww ha))
+answers {i = i} {m = m} {w = w} {v = v} {n = n} {o = o} {l = l} u h few g q wi aw ww em ha = go (subst (Told n o) (sym (c.heard aw)) (told (row_here w) h.both away aw ww ha))
   where
     c : Quiet u
-    c = quiet u h q
+    c = quiet u h few q
 
     away : (seen w).here ≡ false
     away = let s = h.small in ne_eqb w.last w.turn (λ e. omega arith)
@@ -461,18 +460,18 @@ answers {i = i} {m = m} {w = w} {v = v} {n = n} {o = o} {l = l} u h g q wi aw ww
         let j = eqb-true u.quiet.last u.quiet.turn b in absurd (omega arith)
 
 -- one of the two
-pub answered : {i m : ℕ} {w v : World} {n o l : Node} (u : Turned w o l v) → Whole i m [] o n w → w.last ≡ 1 - w.turn → v.rough ≡ false → v.wish ≡ true → o.awake ≡ true → Windowed n.state → row_there w ≡ [] → HasAsked n.state (row_here w)
+pub answered : {i m : ℕ} {w v : World} {n o l : Node} (u : TurnedOver w o l v) → Whole i m [] o n w → length (row_here w) ≤ 64 → w.last ≡ 1 - w.turn → v.rough ≡ false → v.wish ≡ true → o.awake ≡ true → Windowed n.state → row_there w ≡ [] → HasAsked n.state (row_here w)
     → Acknowledged n l (row_there v) ⊎ Refused n (row_there v)
-answered u h g q wi aw ww em ha = elim (answers u h g q wi aw ww em ha) [ inl a ↦ inl a | inr a ↦ inr a.0 ]
+answered u h few g q wi aw ww em ha = elim (answers u h few g q wi aw ww em ha) [ inl a ↦ inl a | inr a ↦ inr a.0 ]
 
 -- if o was with n in its attempt, the window is put
-pub acknowledged : {i m : ℕ} {w v : World} {n o l : Node} (u : Turned w o l v) → Whole i m [] o n w → w.last ≡ 1 - w.turn → v.rough ≡ false → v.wish ≡ true → o.awake ≡ true → Windowed n.state → row_there w ≡ [] → HasAsked n.state (row_here w)
+pub acknowledged : {i m : ℕ} {w v : World} {n o l : Node} (u : TurnedOver w o l v) → Whole i m [] o n w → length (row_here w) ≤ 64 → w.last ≡ 1 - w.turn → v.rough ≡ false → v.wish ≡ true → o.awake ≡ true → Windowed n.state → row_there w ≡ [] → HasAsked n.state (row_here w)
     → With n o → Acknowledged n l (row_there v)
-acknowledged u h g q wi aw ww em ha k = elim (answers u h g q wi aw ww em ha) [ inl a ↦ a | inr a ↦ absurd (a.1 k) ]
+acknowledged u h few g q wi aw ww em ha k = elim (answers u h few g q wi aw ww em ha) [ inl a ↦ a | inr a ↦ absurd (a.1 k) ]
 
 -- WHO HAS THE GUEST
 -- who runs the guest after its act and doesn't copy it, ran it before, and knows of nobody who wants it elsewhere
-runs_on : (pages most : ℕ) (told : Bool) (s : State) (n : Node) (w : World) (m : Node) (v : World) (x : Run) → m.state ≡ Running x → ActedIn pages most told s n w m v → (y : Run) × (s ≡ Running y) × ((y.wanted || told) ≡ false)
+runs_on : (pages most : ℕ) (told : Bool) (s : State) (n : Node) (w : World) (m : Node) (v : World) (x : Run) → m.state ≡ Running x → ActedOver pages most told s n w m v → (y : Run) × (s ≡ Running y) × ((y.wanted || told) ≡ false)
 runs_on pages most told Away n w m v x e a = clash (sym (ap (λ (y : Node). y.state) a.0) ∙ e) tt
 runs_on pages most told (Receiving z) n w m v x e a = clash (sym (ap (λ (y : Node). y.state) a.0) ∙ e) tt
 runs_on pages most told (Running z) n w m v x e (stays f a k) = (z, refl, f)
@@ -481,16 +480,16 @@ runs_on pages most told (Copying z) n w m v x e (on f k) = clash (sym (ap (λ (y
 runs_on pages most told (Copying z) n w m v x e (again f g k) = clash (sym (ap (λ (y : Node). y.state) k.node) ∙ e) tt
 runs_on pages most told (Copying z) n w m v x e (stops f g k) = clash (sym (ap (λ (y : Node). y.state) k.node) ∙ e) tt
 runs_on pages most told (Paused z) n w m v x e (settles f a k) = clash (sym (ap (λ (y : Node). y.state) a) ∙ e) tt
-runs_on pages most told (Paused z) n w m v x e (goes_Back f g k) = clash (sym (ap (λ (y : Node). y.state) k.node) ∙ e) tt
+runs_on pages most told (Paused z) n w m v x e (goes_back f g k) = clash (sym (ap (λ (y : Node). y.state) k.node) ∙ e) tt
 runs_on pages most told (Paused z) n w m v x e (goes f g k r) = clash (sym (ap (λ (y : Node). y.state) k.node) ∙ e) tt
 runs_on pages most told (Committed z) n w m v x e a = clash (sym (ap (λ (y : Node). y.state) a.0) ∙ e) tt
 
 -- AFTER A QUIET TURN IT IS IN AN ATTEMPT, if the guest is there and to be moved.
-pub trying : {i m k : ℕ} {w v : World} {n o l : Node} (u : Turned w n l v) → Whole i m [] n o w → Whole i k [] l o v → w.last ≡ w.turn → v.rough ≡ false → v.wish ≡ true → v.lost ≡ false → v.hurt ≡ false → (t : ℕ) × (tries l.state ≡ Some t)
-trying {i = i} {m = m} {w = w} {v = v} {n = n} {o = o} {l = l} u h g e q wi lo hu = go l.state refl has
+pub trying : {i m k : ℕ} {w v : World} {n o l : Node} (u : TurnedOver w n l v) → Whole i m [] n o w → length (row_here w) ≤ 64 → Whole i k [] l o v → w.last ≡ w.turn → v.rough ≡ false → v.wish ≡ true → v.lost ≡ false → v.hurt ≡ false → (t : ℕ) × (tries l.state ≡ Some t)
+trying {i = i} {m = m} {w = w} {v = v} {n = n} {o = o} {l = l} u h few g e q wi lo hu = go l.state refl has
   where
     c : Quiet u
-    c = quiet u h q
+    c = quiet u h few q
 
     here : (seen v).here ≡ true
     here = eq-eqb v.last v.turn ((c.wish wi).2 ∙ e ∙ sym c.turn)
@@ -513,7 +512,7 @@ trying {i = i} {m = m} {w = w} {v = v} {n = n} {o = o} {l = l} u h g e q wi lo h
 
 -- IT ASKS
 -- if nothing waits for the other when it acts
-acts_ask : (pages most : ℕ) (told : Bool) (s : State) (n : Node) (w : World) (m : Node) (v : World) (t : ℕ) → v.rough ≡ false → row_there w ≡ [] → tries m.state ≡ Some t → ActedIn pages most told s n w m v → HasAsked m.state (row_there v)
+acts_ask : (pages most : ℕ) (told : Bool) (s : State) (n : Node) (w : World) (m : Node) (v : World) (t : ℕ) → v.rough ≡ false → row_there w ≡ [] → tries m.state ≡ Some t → ActedOver pages most told s n w m v → HasAsked m.state (row_there v)
 acts_ask pages most told Away n w m v t q e i a = nothing (sym (ap (λ (y : Node). tries y.state) a.0) ∙ i)
 acts_ask pages most told (Receiving z) n w m v t q e i a = nothing (sym (ap (λ (y : Node). tries y.state) a.0) ∙ i)
 acts_ask pages most told (Running z) n w m v t q e i (stays f a k) = nothing (sym (ap (λ (y : Node). tries y.state) a) ∙ i)
@@ -522,7 +521,7 @@ acts_ask pages most told (Copying z) n w m v t q e i (on f k) = ap (λ (y : Node
 acts_ask pages most told (Copying z) n w m v t q e i (again f g k) = ap (λ (y : Node). asks y.state) k.node ∙ ap Some (sym (k.went.asked e q))
 acts_ask pages most told (Copying z) n w m v t q e i (stops f g k) = ap (λ (y : Node). asks y.state) k.node ∙ ap Some (sym (k.went.asked e q))
 acts_ask pages most told (Paused z) n w m v t q e i (settles f a k) = ap (λ (y : Node). asks y.state) a ∙ ap Some (sym (row_one (head Commit z.transfer.attempt 0 0) w v k q e))
-acts_ask pages most told (Paused z) n w m v t q e i (goes_Back f g k) = ap (λ (y : Node). asks y.state) k.node ∙ ap Some (sym (k.went.asked e q))
+acts_ask pages most told (Paused z) n w m v t q e i (goes_back f g k) = ap (λ (y : Node). asks y.state) k.node ∙ ap Some (sym (k.went.asked e q))
 acts_ask pages most told (Paused z) n w m v t q e i (goes f g k r) = ap (λ (y : Node). asks y.state) k.node ∙ ap Some (sym (k.went.asked e q))
 acts_ask pages most told (Committed z) n w m v t q e i a = ap (λ (y : Node). asks y.state) a.0 ∙ ap Some (sym (row_one (head Commit z.attempt 0 0) w v a.1 q e))
 
@@ -540,10 +539,10 @@ no_reply n t e = go n.asked n.state e refl
     go (Some b) (Committed x) i f = ap (λ (z : State). answer_head b (answer_in z b n.took)) f
 
 -- if nothing waits for the other when its turn begins
-pub asking : {i m k : ℕ} {w v : World} {n o l : Node} (u : Turned w n l v) → Whole i m [] n o w → Whole i k [] l o v → w.last ≡ w.turn → v.rough ≡ false → v.wish ≡ true → v.lost ≡ false → v.hurt ≡ false → row_there w ≡ [] → HasAsked l.state (row_there v)
-asking {w = w} {v = v} {l = l} u h g e q wi lo hu em =
-    let c = quiet u h q in
-    let t = trying u h g e q wi lo hu in
+pub asking : {i m k : ℕ} {w v : World} {n o l : Node} (u : TurnedOver w n l v) → Whole i m [] n o w → length (row_here w) ≤ 64 → Whole i k [] l o v → w.last ≡ w.turn → v.rough ≡ false → v.wish ≡ true → v.lost ≡ false → v.hurt ≡ false → row_there w ≡ [] → HasAsked l.state (row_there v)
+asking {w = w} {v = v} {l = l} u h few g e q wi lo hu em =
+    let c = quiet u h few q in
+    let t = trying u h few g e q wi lo hu in
     let f : l.state ≡ u.acted.state = ap (λ (y : Node). y.state) u.node in
     let i : tries u.acted.state ≡ Some t.0 = ap tries (sym f) ∙ t.1 in
     let a = acts_ask w.pages u.most (me u.quiet).told u.heard.state (on_state Away u.heard) u.quiet u.acted u.done t.0 c.late (u.hears.far ∙ em) i u.acts in
@@ -559,7 +558,7 @@ single h (x ∷ []) e = refl
 single h (x ∷ y ∷ r) e = absurd (omega (arith, ap length e))
 
 -- its act leaves it in the same attempt
-acts_try : (pages most : ℕ) (told : Bool) (s : State) (n : Node) (w : World) (m : Node) (v : World) (x : Transfer) → moving s ≡ Some x → ActedIn pages most told s n w m v → tries m.state ≡ Some x.attempt
+acts_try : (pages most : ℕ) (told : Bool) (s : State) (n : Node) (w : World) (m : Node) (v : World) (x : Transfer) → moving s ≡ Some x → ActedOver pages most told s n w m v → tries m.state ≡ Some x.attempt
 acts_try pages most told Away n w m v x e a = nothing e
 acts_try pages most told (Receiving z) n w m v x e a = nothing e
 acts_try pages most told (Running z) n w m v x e a = nothing e
@@ -567,7 +566,7 @@ acts_try pages most told (Copying z) n w m v x e (on f k) = ap (λ (y : Node). t
 acts_try pages most told (Copying z) n w m v x e (again f g k) = ap (λ (y : Node). tries y.state) k.node ∙ ap Some (gone_attempt k.goes) ∙ ap (λ (c : Transfer). Some c.attempt) (same e)
 acts_try pages most told (Copying z) n w m v x e (stops f g k) = ap (λ (y : Node). tries y.state) k.node ∙ ap Some (gone_attempt k.goes) ∙ ap (λ (c : Transfer). Some c.attempt) (same e)
 acts_try pages most told (Paused z) n w m v x e (settles f a k) = ap (λ (y : Node). tries y.state) a ∙ ap (λ (c : Transfer). Some c.attempt) (same e)
-acts_try pages most told (Paused z) n w m v x e (goes_Back f g k) = ap (λ (y : Node). tries y.state) k.node ∙ ap Some (gone_attempt k.goes) ∙ ap (λ (c : Transfer). Some c.attempt) (same e)
+acts_try pages most told (Paused z) n w m v x e (goes_back f g k) = ap (λ (y : Node). tries y.state) k.node ∙ ap Some (gone_attempt k.goes) ∙ ap (λ (c : Transfer). Some c.attempt) (same e)
 acts_try pages most told (Paused z) n w m v x e (goes f g k r) = ap (λ (y : Node). tries y.state) k.node ∙ ap Some (gone_attempt k.goes) ∙ ap (λ (c : Transfer). Some c.attempt) (same e)
 acts_try pages most told (Committed z) n w m v x e a = nothing e
 
@@ -586,7 +585,7 @@ acked_moving (Committed z) x e = nothing e
 
 -- A quiet turn of n that begins with the answer that the whole window of its transfer x is put.
 -- asks: so many are left; with: the other is with it after the turn too.
-pub record Cleared {w v : World} {n l : Node} (u : Turned w n l v) (x : Transfer) (o : Node) : Type 0 where
+pub record Cleared {w v : World} {n l : Node} (u : TurnedOver w n l v) (x : Transfer) (o : Node) : Type 0 where
   pub one : length (row_here w) ≡ 1
   pub asks : 252 ≤ u.most
   pub heard : u.heard ≡ on_state (acked_in x.attempt (end x) n.state) n
@@ -597,8 +596,8 @@ pub record Cleared {w v : World} {n l : Node} (u : Turned w n l v) (x : Transfer
   pub with : With l o
 
 -- that is so of each turn that begins with it
-pub clears : {i m : ℕ} {w v : World} {n o l : Node} (u : Turned w n l v) → Whole i m [] n o w → v.rough ≡ false → n.awake ≡ true → (a : Acknowledged n o (row_here w)) → Cleared u a.x o
-clears {w = w} {v = v} {n = n} {o = o} {l = l} u h q aw a =
+pub clears : {i m : ℕ} {w v : World} {n o l : Node} (u : TurnedOver w n l v) → Whole i m [] n o w → length (row_here w) ≤ 64 → v.rough ≡ false → n.awake ≡ true → (a : Acknowledged n o (row_here w)) → Cleared u a.x o
+clears {w = w} {v = v} {n = n} {o = o} {l = l} u h few q aw a =
     record {
       one = one;
       asks = let k = u.cost aw c.early in let j = one in omega arith;
@@ -614,7 +613,7 @@ clears {w = w} {v = v} {n = n} {o = o} {l = l} u h q aw a =
     x = a.x
 
     c : Quiet u
-    c = quiet u h q
+    c = quiet u h few q
 
     one : length (row_here w) ≡ 1
     one = single (head Ack x.attempt (end x) 0) (row_here w) a.row
@@ -658,7 +657,7 @@ refused_runs {n = n} {w = w} t h e lo hu = go n.state refl
             ]
 
 -- A quiet turn of n that begins with a refusal of its attempt t.
-pub record Renewed {w v : World} {n l : Node} (u : Turned w n l v) (t : ℕ) (o : Node) : Type 0 where
+pub record Renewed {w v : World} {n l : Node} (u : TurnedOver w n l v) (t : ℕ) (o : Node) : Type 0 where
   pub one : length (row_here w) ≡ 1
   pub asks : 252 ≤ u.most
   pub heard : u.heard ≡ refused t n
@@ -666,12 +665,12 @@ pub record Renewed {w v : World} {n l : Node} (u : Turned w n l v) (t : ℕ) (o 
   pub with : With l o
 
 -- that is so of each turn that begins with one
-pub renews : {i m : ℕ} {w v : World} {n o l : Node} (u : Turned w n l v) → Whole i m [] n o w → w.last ≡ w.turn → w.lost ≡ false → w.hurt ≡ false → v.rough ≡ false → n.awake ≡ true → o.awake ≡ true → (a : Refused n (row_here w)) → Renewed u a.t o
-renews {w = w} {v = v} {n = n} {o = o} {l = l} u h e lo hu q aw ow a =
+pub renews : {i m : ℕ} {w v : World} {n o l : Node} (u : TurnedOver w n l v) → Whole i m [] n o w → length (row_here w) ≤ 64 → w.last ≡ w.turn → w.lost ≡ false → w.hurt ≡ false → v.rough ≡ false → n.awake ≡ true → o.awake ≡ true → (a : Refused n (row_here w)) → Renewed u a.t o
+renews {w = w} {v = v} {n = n} {o = o} {l = l} u h few e lo hu q aw ow a =
     record { one = one; asks = let k = u.cost aw c.early in let j = one in omega arith; heard = heard; runs = runs; with = go (acts_as u (Running (record { wanted = true })) runs) }
   where
     c : Quiet u
-    c = quiet u h q
+    c = quiet u h few q
 
     one : length (row_here w) ≡ 1
     one = single (head Refuse a.t 0 0) (row_here w) a.row
@@ -689,7 +688,7 @@ renews {w = w} {v = v} {n = n} {o = o} {l = l} u h e lo hu q aw ow a =
         let k = (h.both.yours.cells.copies ow).1 in
         let b = h.both.ours.order.later (eq-eqb w.last w.turn e) in omega arith
 
-    go : RunDid w.pages u.most (me u.quiet).told (record { wanted = true }) (on_state Away u.heard) u.quiet u.acted u.done → With l o
+    go : RunOver w.pages u.most (me u.quiet).told (record { wanted = true }) (on_state Away u.heard) u.quiet u.acted u.done → With l o
     go (stays f k s) = no refl f
     go (starts d f k s) =
         let b : s.after.attempt ≡ d.attempt = gone_attempt s.goes in

@@ -22,8 +22,10 @@ use Rattle.moving.specs.Model.{moving, ticked, anew, afresh, over, acked, on_sta
 use Rattle.moving.specs.Scan.{Looked, Looks, Looks.none, Looks.more, GoneOn, due}
 use Rattle.moving.specs.Invariant.{unsent}
 use Rattle.moving.specs.Acted as acted
-use Rattle.moving.specs.Acted.{New, RunDid, CopyDid, PauseDid, ActedIn, Hears, Heard, Turned}
-use Rattle.moving.specs.Calm.{Rises, todo, Went}
+use Rattle.moving.specs.Acted.{New, Hears, Heard}
+use Rattle.moving.specs.Over as played
+use Rattle.moving.specs.Over.{RunOver, CopyOver, PauseOver, ActedOver, TurnedOver}
+use Rattle.moving.specs.Calm.{Rises, Within, todo, Went}
 use Rattle.moving.specs.Time.{PassWell, PauseWell, Paced, Pace, rest, CopyPace, PausePace, InPace, tries}
 use Rattle.moving.proofs.Moves.{clash, none_some}
 
@@ -84,26 +86,21 @@ pub gone_counts : {pages most : ℕ} {x y : Transfer} → GoneOn pages most x y 
 gone_counts {x = x} g =
     elim (cases_lt 0 x.window.len) [ inl l ↦ subst⁻¹ (λ z. Passes x z) (g.same l) (passes_self x) | inr l ↦ looks_passes (g.goes (omega arith)).looks ]
 
--- No page past the last is looked at.
-pub gone_within : {pages most : ℕ} {x y : Transfer} → GoneOn pages most x y → x.cursor ≤ pages → y.cursor ≤ pages
-gone_within {pages = pages} {x = x} g h =
-    elim (cases_lt 0 x.window.len) [ inl l ↦ subst⁻¹ (λ (z : Transfer). z.cursor ≤ pages) (g.same l) h | inr l ↦ (g.goes (omega arith)).within h ]
-
 -- What holds of a pass holds after one more turn of it.
-pub gone_well : {pages most : ℕ} {x y : Transfer} → GoneOn pages most x y → PassWell pages x → PassWell pages y
-gone_well g h =
+pub gone_well : {pages most : ℕ} {x y : Transfer} → GoneOn pages most x y → Within pages x y → PassWell pages x → PassWell pages y
+gone_well g i h =
     let p = gone_counts g in
     let a = p.turns in
     let b = p.prev in
     let c = h.turns in
     let d = h.prev in
-    record { turns = omega arith; prev = omega arith; cursor = gone_within g h.cursor; sent = p.sent h.sent; below = p.below h.below }
+    record { turns = omega arith; prev = omega arith; cursor = i h.cursor; sent = p.sent h.sent; below = p.below h.below }
 
 -- No fewer pages have been sent.
-pub gone_sent : {pages most : ℕ} {x y : Transfer} → GoneOn pages most x y → pages ≤ 4096 → PassWell pages x → x.sent ≤ y.sent
-gone_sent g few h =
+pub gone_sent : {pages most : ℕ} {x y : Transfer} → GoneOn pages most x y → Within pages x y → pages ≤ 4096 → PassWell pages x → x.sent ≤ y.sent
+gone_sent g i few h =
     let p = gone_counts g in
-    let c = gone_within g h.cursor in
+    let c = i h.cursor in
     let l = p.window h.sent (omega arith) in
     let m = p.more in
     omega arith
@@ -283,31 +280,31 @@ new_well : {pages : ℕ} {n : Node} {x : Transfer} → New pages n x → PassWel
 new_well {pages = pages} {x = x} e = let v = e.prev in begin_well pages (ticked x) e.cursor e.sent (omega arith) (omega arith)
 
 -- After what it does by itself.
-pub acts_paced : (pages most : ℕ) (told : Bool) (s : State) (n : Node) (w : World) (m : Node) (v : World) → ActedIn pages most told s n w m v → Paced pages s → Paced pages m.state
+pub acts_paced : (pages most : ℕ) (told : Bool) (s : State) (n : Node) (w : World) (m : Node) (v : World) → ActedOver pages most told s n w m v → Paced pages s → Paced pages m.state
 acts_paced pages most told Away n w m v d p = subst⁻¹ (λ (k : Node). Paced pages k.state) d.0 tt
 acts_paced pages most told (Receiving r) n w m v d p = subst⁻¹ (λ (k : Node). Paced pages k.state) d.0 tt
-acts_paced pages most told (Running r) n w m v (acted.RunDid.stays f e h) p = subst⁻¹ (λ (k : Node). Paced pages k.state) e tt
-acts_paced pages most told (Running r) n w m v (acted.RunDid.begins c f e h) p = subst⁻¹ (λ (k : Node). Paced pages k.state) h.node (gone_well h.goes (new_well e))
-acts_paced pages most told (Copying x) n w m v (acted.CopyDid.on f h) p = subst⁻¹ (λ (k : Node). Paced pages k.state) h.node (gone_well h.goes (tick_well x p))
-acts_paced pages most told (Copying x) n w m v (acted.CopyDid.again f l h) p = subst⁻¹ (λ (k : Node). Paced pages k.state) h.node (gone_well h.goes (anew_well x p))
-acts_paced pages most told (Copying x) n w m v (acted.CopyDid.stops f l h) p =
+acts_paced pages most told (Running r) n w m v (played.RunOver.stays f e h) p = subst⁻¹ (λ (k : Node). Paced pages k.state) e tt
+acts_paced pages most told (Running r) n w m v (played.RunOver.begins c f e h) p = subst⁻¹ (λ (k : Node). Paced pages k.state) h.node (gone_well h.goes h.within (new_well e))
+acts_paced pages most told (Copying x) n w m v (played.CopyOver.on f h) p = subst⁻¹ (λ (k : Node). Paced pages k.state) h.node (gone_well h.goes h.within (tick_well x p))
+acts_paced pages most told (Copying x) n w m v (played.CopyOver.again f l h) p = subst⁻¹ (λ (k : Node). Paced pages k.state) h.node (gone_well h.goes h.within (anew_well x p))
+acts_paced pages most told (Copying x) n w m v (played.CopyOver.stops f l h) p =
     let k = gone_counts h.goes in
     let t = k.turns in
     let a = k.prev in
-    subst⁻¹ (λ (k : Node). Paced pages k.state) h.node (record { pass = gone_well h.goes (anew_well x p); turns = t; most = omega arith; prev = omega arith })
-acts_paced pages most told (Paused x) n w m v (acted.PauseDid.settles f e h) p = subst⁻¹ (λ (k : Node). Paced pages k.state) e tt
-acts_paced pages most told (Paused x) n w m v (acted.PauseDid.resumes f l h) p = subst⁻¹ (λ (k : Node). Paced pages k.state) h.node (gone_well h.goes (afresh_well pages x.transfer))
-acts_paced pages most told (Paused x) n w m v (acted.PauseDid.goes f l h r) p =
+    subst⁻¹ (λ (k : Node). Paced pages k.state) h.node (record { pass = gone_well h.goes h.within (anew_well x p); turns = t; most = omega arith; prev = omega arith })
+acts_paced pages most told (Paused x) n w m v (played.PauseOver.settles f e h) p = subst⁻¹ (λ (k : Node). Paced pages k.state) e tt
+acts_paced pages most told (Paused x) n w m v (played.PauseOver.resumes f l h) p = subst⁻¹ (λ (k : Node). Paced pages k.state) h.node (gone_well h.goes h.within (afresh_well pages x.transfer))
+acts_paced pages most told (Paused x) n w m v (played.PauseOver.goes f l h r) p =
     let k = gone_counts h.goes in
     let t = k.turns in
     let a = k.prev in
     let b = p.turns in
     let c = p.prev in
-    subst⁻¹ (λ (k : Node). Paced pages k.state) h.node (record { pass = gone_well h.goes (tick_well x.transfer p.pass); turns = omega arith; most = omega arith; prev = omega arith })
+    subst⁻¹ (λ (k : Node). Paced pages k.state) h.node (record { pass = gone_well h.goes h.within (tick_well x.transfer p.pass); turns = omega arith; most = omega arith; prev = omega arith })
 acts_paced pages most told (Committed x) n w m v d p = subst⁻¹ (λ (k : Node). Paced pages k.state) d.0 tt
 
 -- After a whole turn.
-pub turned_paced : {w v : World} {n m : Node} → Turned w n m v → Paced w.pages n.state → Paced w.pages m.state
+pub turned_paced : {w v : World} {n m : Node} → TurnedOver w n m v → Paced w.pages n.state → Paced w.pages m.state
 turned_paced {w = w} {n = n} t p =
     let a = woken ((me w).cell 0) ((me w).cell 1) ((me w).cell 2) n in
     let b = kin_paced w.pages a.state (woken_kin ((me w).cell 0) ((me w).cell 1) ((me w).cell 2) n) p in
@@ -349,18 +346,18 @@ short {pages = pages} {touched = touched} {x = x} few h p l =
     sums p k s t v r few a b d e f = omega arith
 
 -- The guest stands for less than 32 rounds, and is moved in less than 256 + 8 * pages.
-pub in-time : (pages calm still : ℕ) (touched : ℕ → Bool) (s : State) → still ≤ calm → Paced pages s → InPace pages calm still touched s → (still < 32) × (calm < 256 + 8 * pages)
-in-time pages calm still touched Away l h p = (omega arith, omega arith)
-in-time pages calm still touched (Receiving r) l h p = (omega arith, omega arith)
-in-time pages calm still touched (Running r) l h p = (omega arith, omega arith)
-in-time pages calm still touched (Copying x) l h p = (let z = p.1 in omega arith, soon p.0 (cases_lt calm (x.turns + 3)) (cases_lt calm (x.prev + x.turns + 3)))
+pub in_time : (pages calm still : ℕ) (touched : ℕ → Bool) (s : State) → still ≤ calm → Paced pages s → InPace pages calm still touched s → (still < 32) × (calm < 256 + 8 * pages)
+in_time pages calm still touched Away l h p = (omega arith, omega arith)
+in_time pages calm still touched (Receiving r) l h p = (omega arith, omega arith)
+in_time pages calm still touched (Running r) l h p = (omega arith, omega arith)
+in_time pages calm still touched (Copying x) l h p = (let z = p.1 in omega arith, soon p.0 (cases_lt calm (x.turns + 3)) (cases_lt calm (x.prev + x.turns + 3)))
   where
     soon : CopyPace pages calm touched x → (calm < x.turns + 3) ⊎ (x.turns + 3 ≤ calm) → (calm < x.prev + x.turns + 3) ⊎ (x.prev + x.turns + 3 ≤ calm) → calm < 256 + 8 * pages
     soon q (inl k) j = let a = early h q.pace k in omega arith
     soon q (inr k) (inl j) = let a = slow h q.pace k in let b = q.late k j in omega arith
     soon q (inr k) (inr j) = let a = slow h q.pace k in let b = q.later j in let c = q.pace.before j in omega arith
-in-time pages calm still touched (Paused x) l h p = let a = h.most in let b = p.late in let c = p.since in (omega arith, omega arith)
-in-time pages calm still touched (Committed x) l h p = let a = p.0 in let b = p.1 in (omega arith, omega arith)
+in_time pages calm still touched (Paused x) l h p = let a = h.most in let b = p.late in let c = p.since in (omega arith, omega arith)
+in_time pages calm still touched (Committed x) l h p = let a = p.0 in let b = p.1 in (omega arith, omega arith)
 
 -- A CALM ROUND.
 -- One turn of a pass in it, from x, as that turn begins, to y.
@@ -372,10 +369,10 @@ record Onward (pages calm : ℕ) (x y : Transfer) : Type 0 where
   far : 3 ≤ calm → y.cursor < pages → x.cursor + 3 * x.sent + 248 ≤ y.cursor + 3 * y.sent
 
 -- it looks at pages if none is on its way, and there are asks enough
-onward : {pages most : ℕ} {x y : Transfer} (calm : ℕ) → pages ≤ 4096 → PassWell pages x → (3 ≤ calm → x.window.len ≡ 0) → (3 ≤ calm → 251 ≤ most) → GoneOn pages most x y → Onward pages calm x y
-onward calm few h empty asks g =
+onward : {pages most : ℕ} {x y : Transfer} (calm : ℕ) → pages ≤ 4096 → PassWell pages x → (3 ≤ calm → x.window.len ≡ 0) → (3 ≤ calm → 251 ≤ most) → GoneOn pages most x y → Within pages x y → Onward pages calm x y
+onward calm few h empty asks g i =
     let p = gone_counts g in
-    record { turns = p.turns; prev = p.prev; cursor = p.cursor; sum = let a = p.cursor in let b = gone_sent g few h in omega arith; far = λ c l. gone_progress g (empty c) (asks c) few h l }
+    record { turns = p.turns; prev = p.prev; cursor = p.cursor; sum = let a = p.cursor in let b = gone_sent g i few h in omega arith; far = λ c l. gone_progress g (empty c) (asks c) few h l }
 
 -- a pass goes on
 pace_on : {pages calm : ℕ} {y : Transfer} (x : Transfer) → calm ≤ 40000 → (3 ≤ calm → x.cursor < pages) → Onward pages calm (ticked x) y → Pace pages calm x → Pace pages (calm + 1) y
@@ -648,71 +645,71 @@ pub record Calm (pages calm still since b most : ℕ) (T U : ℕ → Bool) (s0 s
   pub copies : (x : Transfer) → m.state ≡ Copying x → since ≡ 0
 
 -- from Copying
-copying_in_pace : {pages calm still since b most : ℕ} {T U : ℕ → Bool} {s0 : State} {x : Transfer} {n : Node} {w : World} {m : Node} {v : World} → Calm pages calm still since b most T U s0 (Copying x) w m v → CopyDid pages most x n w m v → calm ≤ 40000 → PassWell pages x → CopyPace pages calm T x → still ≡ 0 → InPace pages (calm + 1) since U m.state
-copying_in_pace {pages = pages} {calm = calm} {since = since} {U = U} {x = x} r (acted.CopyDid.on f d) small h p z =
+copying_in_pace : {pages calm still since b most : ℕ} {T U : ℕ → Bool} {s0 : State} {x : Transfer} {n : Node} {w : World} {m : Node} {v : World} → Calm pages calm still since b most T U s0 (Copying x) w m v → CopyOver pages most x n w m v → calm ≤ 40000 → PassWell pages x → CopyPace pages calm T x → still ≡ 0 → InPace pages (calm + 1) since U m.state
+copying_in_pace {pages = pages} {calm = calm} {since = since} {U = U} {x = x} r (played.CopyOver.on f d) small h p z =
     let a : 3 ≤ calm → x.window.len ≡ 0 = λ k. r.ready k x refl in
     subst⁻¹ (λ (k : Node). InPace pages (calm + 1) since U k.state) d.node
-    (copy_on x r.writes small (λ k. not_over pages x f h.cursor (a k)) (onward calm r.few (tick_well x h) a (λ k. let i = r.asks k in omega arith) d.goes) d.went p, r.copies d.after (ap (λ (k : Node). k.state) d.node))
-copying_in_pace {pages = pages} {calm = calm} {since = since} {U = U} {x = x} r (acted.CopyDid.again f l d) small h p z =
+    (copy_on x r.writes small (λ k. not_over pages x f h.cursor (a k)) (onward calm r.few (tick_well x h) a (λ k. let i = r.asks k in omega arith) d.goes d.within) d.went p, r.copies d.after (ap (λ (k : Node). k.state) d.node))
+copying_in_pace {pages = pages} {calm = calm} {since = since} {U = U} {x = x} r (played.CopyOver.again f l d) small h p z =
     let a = is_over pages x f in
     subst⁻¹ (λ (k : Node). InPace pages (calm + 1) since U k.state) d.node
-    (copy_anew x r.writes r.few a.1 l (onward calm r.few (anew_well x h) (λ k. a.0) (λ k. let i = r.asks k in omega arith) d.goes) d.went h p, r.copies d.after (ap (λ (k : Node). k.state) d.node))
-copying_in_pace {pages = pages} {calm = calm} {since = since} {U = U} {x = x} r (acted.CopyDid.stops f l d) small h p z =
+    (copy_anew x r.writes r.few a.1 l (onward calm r.few (anew_well x h) (λ k. a.0) (λ k. let i = r.asks k in omega arith) d.goes d.within) d.went h p, r.copies d.after (ap (λ (k : Node). k.state) d.node))
+copying_in_pace {pages = pages} {calm = calm} {since = since} {U = U} {x = x} r (played.CopyOver.stops f l d) small h p z =
     let a = is_over pages x f in
     let i = r.next in
     subst⁻¹ (λ (k : Node). InPace pages (calm + 1) since U k.state) d.node
-    (pause_stops x (record { transfer = d.after; right = record { attempt = x.attempt }; turns = 1 }) r.writes refl a.1 l (omega arith) (onward calm r.few (anew_well x h) (λ k. a.0) (λ k. let i = r.asks k in omega arith) d.goes) d.went h p)
+    (pause_stops x (record { transfer = d.after; right = record { attempt = x.attempt }; turns = 1 }) r.writes refl a.1 l (omega arith) (onward calm r.few (anew_well x h) (λ k. a.0) (λ k. let i = r.asks k in omega arith) d.goes d.within) d.went h p)
 
 -- from Paused
-pausing_in_pace : {pages calm still since b most : ℕ} {T U : ℕ → Bool} {s0 : State} {x : Pause} {n : Node} {w : World} {m : Node} {v : World} → Calm pages calm still since b most T U s0 (Paused x) w m v → PauseDid pages most x n w m v → calm ≤ 40000 → PauseWell pages x → PausePace pages calm still T x → InPace pages (calm + 1) since U m.state
-pausing_in_pace {pages = pages} {calm = calm} {since = since} {U = U} r (acted.PauseDid.settles f e d) small h p =
+pausing_in_pace : {pages calm still since b most : ℕ} {T U : ℕ → Bool} {s0 : State} {x : Pause} {n : Node} {w : World} {m : Node} {v : World} → Calm pages calm still since b most T U s0 (Paused x) w m v → PauseOver pages most x n w m v → calm ≤ 40000 → PauseWell pages x → PausePace pages calm still T x → InPace pages (calm + 1) since U m.state
+pausing_in_pace {pages = pages} {calm = calm} {since = since} {U = U} r (played.PauseOver.settles f e d) small h p =
     let a = r.next in
     let b = h.most in
     let c = p.late in
     let g = p.since in
     subst⁻¹ (λ (k : Node). InPace pages (calm + 1) since U k.state) e (omega arith, omega arith)
-pausing_in_pace {pages = pages} {calm = calm} {since = since} {U = U} {x = x} r (acted.PauseDid.resumes f l d) small h p =
+pausing_in_pace {pages = pages} {calm = calm} {since = since} {U = U} {x = x} r (played.PauseOver.resumes f l d) small h p =
     let a : 3 ≤ calm → x.transfer.window.len ≡ 0 = λ k. r.ready k x.transfer refl in
     let c = pause_early x r.few l (λ k. not_over pages x.transfer f h.pass.cursor (a k)) h p in
     subst⁻¹ (λ (k : Node). InPace pages (calm + 1) since U k.state) d.node
-    (copy_afresh r.writes c refl refl refl (onward calm r.few (afresh_well pages x.transfer) a (λ k. let i = r.asks k in omega arith) d.goes) d.went, r.copies d.after (ap (λ (k : Node). k.state) d.node))
-pausing_in_pace {pages = pages} {calm = calm} {since = since} {U = U} {x = x} r (acted.PauseDid.goes f l d e) small h p =
+    (copy_afresh r.writes c refl refl refl (onward calm r.few (afresh_well pages x.transfer) a (λ k. let i = r.asks k in omega arith) d.goes d.within) d.went, r.copies d.after (ap (λ (k : Node). k.state) d.node))
+pausing_in_pace {pages = pages} {calm = calm} {since = since} {U = U} {x = x} r (played.PauseOver.goes f l d e) small h p =
     let a : 3 ≤ calm → x.transfer.window.len ≡ 0 = λ k. r.ready k x.transfer refl in
     let z : Pause = record { transfer = d.after; right = record { attempt = x.right.attempt }; turns = x.turns + 1 } in
     subst⁻¹ (λ (k : Node). InPace pages (calm + 1) since U k.state) d.node
-    (pause_goes x z r.writes (r.idle x z refl (ap (λ (k : Node). k.state) d.node)) refl l r.next small (λ k. not_over pages x.transfer f h.pass.cursor (a k)) (onward calm r.few (tick_well x.transfer h.pass) a (λ k. let i = r.asks k in omega arith) d.goes) d.went h p)
+    (pause_goes x z r.writes (r.idle x z refl (ap (λ (k : Node). k.state) d.node)) refl l r.next small (λ k. not_over pages x.transfer f h.pass.cursor (a k)) (onward calm r.few (tick_well x.transfer h.pass) a (λ k. let i = r.asks k in omega arith) d.goes d.within) d.went h p)
 
 -- a host that tries nothing after its turn
 none_tried : {A : Type 0} (s : State) → tries s ≡ None → (t : ℕ) × (tries s ≡ Some t) → A
 none_tried s e f = let g = sym e ∙ f.1 in let z : ◌≡◌ {A = ℕ} 0 1 = cc in absurd (omega arith)
 
 -- from Running
-running_in_pace : {pages calm still since b most : ℕ} {T U : ℕ → Bool} {told : Bool} {s0 : State} {x : Run} {n : Node} {w : World} {m : Node} {v : World} → Calm pages calm still since b most T U s0 (Running x) w m v → RunDid pages most told x n w m v → InPace pages (calm + 1) since U m.state
-running_in_pace {m = m} r (acted.RunDid.stays f e d) = none_tried m.state (ap (λ (k : Node). tries k.state) e) r.tried
-running_in_pace {pages = pages} {calm = calm} {since = since} {U = U} {x = x} r (acted.RunDid.begins c f e d) =
+running_in_pace : {pages calm still since b most : ℕ} {T U : ℕ → Bool} {told : Bool} {s0 : State} {x : Run} {n : Node} {w : World} {m : Node} {v : World} → Calm pages calm still since b most T U s0 (Running x) w m v → RunOver pages most told x n w m v → InPace pages (calm + 1) since U m.state
+running_in_pace {m = m} r (played.RunOver.stays f e d) = none_tried m.state (ap (λ (k : Node). tries k.state) e) r.tried
+running_in_pace {pages = pages} {calm = calm} {since = since} {U = U} {x = x} r (played.RunOver.begins c f e d) =
     let a = r.run x refl in
     let t = e.turns in
     subst⁻¹ (λ (k : Node). InPace pages (calm + 1) since U k.state) d.node
-    (copy_afresh r.writes (omega arith) e.cursor (omega arith) e.prev (onward calm r.few (new_well e) (λ k. absurd (omega arith)) (λ k. absurd (omega arith)) d.goes) d.went, r.copies d.after (ap (λ (k : Node). k.state) d.node))
+    (copy_afresh r.writes (omega arith) e.cursor (omega arith) e.prev (onward calm r.few (new_well e) (λ k. absurd (omega arith)) (λ k. absurd (omega arith)) d.goes d.within) d.went, r.copies d.after (ap (λ (k : Node). k.state) d.node))
 
 -- THE PACE IS KEPT: what holds after `calm` rounds holds after one more.
-pub in-pace : {pages calm still since b most : ℕ} {T U : ℕ → Bool} {s0 : State} {w : World} {m : Node} {v : World} (told : Bool) (s : State) (n : Node) → Calm pages calm still since b most T U s0 s w m v → ActedIn pages most told s n w m v → InPace pages calm still T s0 → InPace pages (calm + 1) since U m.state
-in-pace {m = m} told Away n r d p = none_tried m.state (ap (λ (k : Node). tries k.state) d.0) r.tried
-in-pace {m = m} told (Receiving x) n r d p = none_tried m.state (ap (λ (k : Node). tries k.state) d.0) r.tried
-in-pace told (Running x) n r d p = running_in_pace r d
-in-pace {pages = pages} {calm = calm} {still = still} {T = T} {s0 = s0} told (Copying x) n r d p =
-    let i = (in-time pages calm still T s0 r.less r.paced p).1 in
+pub in_pace : {pages calm still since b most : ℕ} {T U : ℕ → Bool} {s0 : State} {w : World} {m : Node} {v : World} (told : Bool) (s : State) (n : Node) → Calm pages calm still since b most T U s0 s w m v → ActedOver pages most told s n w m v → InPace pages calm still T s0 → InPace pages (calm + 1) since U m.state
+in_pace {m = m} told Away n r d p = none_tried m.state (ap (λ (k : Node). tries k.state) d.0) r.tried
+in_pace {m = m} told (Receiving x) n r d p = none_tried m.state (ap (λ (k : Node). tries k.state) d.0) r.tried
+in_pace told (Running x) n r d p = running_in_pace r d
+in_pace {pages = pages} {calm = calm} {still = still} {T = T} {s0 = s0} told (Copying x) n r d p =
+    let i = (in_time pages calm still T s0 r.less r.paced p).1 in
     let f = r.few in
     let k = r.kin.copying x refl in
     let q : CopyPace pages calm T k.0 × (still ≡ 0) = subst (InPace pages calm still T) k.1 p in
     copying_in_pace r d (omega arith) (kin_paced pages (Copying x) r.kin r.paced) (counts_copy k.2 q.0) q.1
-in-pace {pages = pages} {calm = calm} {still = still} {T = T} {s0 = s0} told (Paused x) n r d p =
-    let i = (in-time pages calm still T s0 r.less r.paced p).1 in
+in_pace {pages = pages} {calm = calm} {still = still} {T = T} {s0 = s0} told (Paused x) n r d p =
+    let i = (in_time pages calm still T s0 r.less r.paced p).1 in
     let f = r.few in
     let k = r.kin.paused x refl in
     let q : PausePace pages calm still T k.0 = subst (InPace pages calm still T) k.1 p in
     pausing_in_pace r d (omega arith) (kin_paced pages (Paused x) r.kin r.paced) (counts_pause k.2 k.3 q)
-in-pace {pages = pages} {calm = calm} {since = since} {U = U} told (Committed x) n r d p =
+in_pace {pages = pages} {calm = calm} {since = since} {U = U} told (Committed x) n r d p =
     let a = r.again x refl in
     let b = r.less in
     let c = r.next in

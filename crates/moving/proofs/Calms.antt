@@ -1,6 +1,6 @@
 -- What asks do over which nobody fell: the line, what was written, and the counts of a round.
 -- Assumes nothing.
-use Rattle.std.proofs.Common.{◌≡◌, ℕ, ◌+◌, ◌-◌, ◌*◌, ◌<◌, ◌≤◌, Bool, true, false, cond, not, ◌&&◌, ◌||◌, T, eqb, ltb, ◌⊎◌, List, [], ◌∷◌, ◌++◌, map, length, take, is_ok, IfOk, Ok, Err, Result, sym, refl, ap, ◌∙◌, subst, inl, inr, arith}
+use Rattle.std.proofs.Common.{◌≡◌, ℕ, ◌+◌, ◌-◌, ◌<◌, ◌≤◌, Bool, true, false, cond, ◌&&◌, T, eqb, ltb, List, [], ◌∷◌, ◌++◌, length, take, is_ok, IfOk, Ok, Err, Result, sym, refl, ap, ◌∙◌, subst, inl, inr, arith}
 use borrow.Author.Tests.{both_ways}
 use Rattle.std.proofs.lemmas.Bool.{cases_eq, cases_lt, eq-eqb, ne_eqb, lt-ltb, le-ltb, eqb-true}
 use Rattle.pageset.specs.Count.{count}
@@ -9,7 +9,7 @@ use Rattle.letter.specs.declared.Letter.{Letter}
 use Rattle.letter.specs.Words.{head, spelt}
 use Rattle.letter.proofs.Spell.{take_spelt}
 use Rattle.moving.specs.declared.Down.{Down}
-use Rattle.moving.specs.Hosts.{Host, World, Goes, Goes.rest, Goes.writes, Does, Does.stands, counted, put, me, other, wrote, with_host, host_of, kept, heard, put_page, untouched, stopped, resumed, Posts, Posts.posts, Sends, Sends.takes, Sends.loses, Gets, Gets.gets, Gets.falls, Gives, Gives.next, Gives.again, Gives.nothing, taken, rest', head_is}
+use Rattle.moving.specs.Hosts.{Host, World, Goes, Goes.rest, Goes.writes, Does, Does.stands, counted, put, me, wrote, with_host, host_of, kept, heard, put_page, untouched, stopped, resumed, Posts, Posts.posts, Sends, Sends.takes, Sends.loses, Gets, Gets.gets, Gets.falls, Gives, Gives.next, Gives.again, Gives.nothing, taken, rest', head_is}
 use Rattle.moving.specs.Calm.{row_here, row_there, heads, Rises, Calmly, Rests, Offline, Still, Added, Pulled}
 
 -- ONE AFTER THE OTHER

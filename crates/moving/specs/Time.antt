@@ -1,7 +1,7 @@
 -- The invariant of time: what holds between rounds beside the invariant of safety. Only calm rounds count, and the world counts them itself:
 -- each line says what holds if so many have gone by, and is empty after a round that wasn't calm.
 -- Assumes nothing.
-use Rattle.std.specs.Prelude.{◌≡◌, ℕ, ◌+◌, ◌-◌, ◌*◌, ◌<◌, ◌≤◌, Bool, true, false, ◌||◌, ◌⊎◌, List, [], ◌∷◌, Some, None, Option}
+use Rattle.std.specs.Prelude.{◌≡◌, ℕ, ◌+◌, ◌*◌, ◌<◌, ◌≤◌, Bool, true, false, ◌||◌, ◌⊎◌, List, [], ◌∷◌, Some, None, Option}
 use Rattle.letter.specs.declared.Kind.TheVariants.{Commit, Ack, Refuse}
 use Rattle.letter.specs.Words.{head}
 use Rattle.pageset.specs.Count.{count, count_from}

@@ -1,21 +1,20 @@
 -- Pages are looked at and sent: how many are dirty, how many are still to be sent, and what waits for the other host.
 -- Assumes nothing.
-use Rattle.std.proofs.Common.{◌≡◌, ℕ, suc, ◌+◌, ◌-◌, ◌*◌, ◌<◌, ◌≤◌, min, Bool, true, false, cond, not, ◌&&◌, ◌||◌, eqb, leb, ◌⊎◌, List, [], ◌∷◌, ◌++◌, length, get_or, take, sym, refl, ap, ◌∙◌, subst, inl, inr, arith}
-use Rattle.std.proofs.lemmas.Bool.{cases_eq, cases_lt, eq-eqb, ne_eqb, le-leb, lt-leb}
+use Rattle.std.proofs.Common.{◌≡◌, ℕ, ◌+◌, ◌<◌, ◌≤◌, min, Bool, true, false, cond, ◌&&◌, ◌||◌, leb, List, [], ◌∷◌, ◌++◌, length, take, sym, refl, ap, ◌∙◌, subst, inl, inr, arith}
+use Rattle.std.proofs.lemmas.Bool.{cases_lt, eq-eqb, ne_eqb, le-leb, lt-leb}
 use Rattle.std.proofs.lemmas.List.{take_more, take_all, length-take-le}
 use Rattle.letter.specs.declared.Kind.TheVariants.{Probe, Page}
 use Rattle.letter.specs.Words.{head}
 use Rattle.pageset.specs.Count.{bit, count, count_from}
 use Rattle.pageset.specs.Member.{member}
 use Rattle.pageset.proofs.Counts.{count_same, count_more, count_cleared}
-use Rattle.window.specs.declared.Window.{Window}
 use Rattle.window.specs.Pages.{Sound, pages_of, pushed, slot}
 use Rattle.window.proofs.Slots.{pages_none, length_pages, pushed_pages}
 use Rattle.moving.specs.declared.state.Transfer.{Transfer}
 use Rattle.moving.specs.Hosts.{World, Does, put, me, untouched}
 use Rattle.moving.specs.Scan.{due, Looked}
-use Rattle.moving.specs.Calm.{row_here, row_there, heads, Rises, Calmly, Rests, Still, Added, page_heads, asked_of, asked_up_to, AskedTo, Asked, todo, Passed, Went}
-use Rattle.moving.proofs.Calms.{calm_self, calm_then, rests_then, does_calm, untouched_plain, length_heads, Deed, swept}
+use Rattle.moving.specs.Calm.{row_here, row_there, heads, Rises, Calmly, Rests, Added, page_heads, asked_of, asked_up_to, AskedTo, Asked, todo, Passed, Went}
+use Rattle.moving.proofs.Calms.{calm_self, calm_then, rests_then, length_heads, swept}
 
 -- ASKS THAT LOOK AT NO PAGE
 rises_due : (c : ℕ) (f : ℕ → Bool) → Rises (λ q b. leb c q && (b || f q))

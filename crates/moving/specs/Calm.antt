@@ -1,8 +1,7 @@
 -- What asks do over which nobody fell: to the line, to the pages that were written, and to the counts of a round.
 -- Assumes nothing.
-use Rattle.std.specs.Prelude.{◌≡◌, ℕ, ◌+◌, ◌-◌, ◌*◌, ◌<◌, ◌≤◌, Bool, true, false, ◌||◌, List, [], ◌∷◌, ◌++◌, map, length, take, Some, None, Option}
+use Rattle.std.specs.Prelude.{◌≡◌, ℕ, ◌+◌, ◌-◌, ◌<◌, ◌≤◌, Bool, true, false, ◌||◌, List, [], ◌∷◌, ◌++◌, map, length, take, Some, None, Option}
 use Rattle.letter.specs.declared.Kind.TheVariants.{Probe, Page}
-use Rattle.letter.specs.declared.Letter.{Letter}
 use Rattle.letter.specs.Words.{head, letter_of}
 use Rattle.pageset.specs.Count.{count, count_from}
 use Rattle.pageset.specs.Member.{member}
@@ -115,6 +114,10 @@ Asked x w = w.rough ≡ false → heads (row_there w) ≡ asked_of x.attempt x.w
 -- How many pages of this pass are still to be sent, as it is now: from the cursor on, written or never sent.
 unfoldable pub todo : Transfer → World → ℕ
 todo x w = count_from (λ q. (me w).touched q || member x.unsent q) x.cursor w.pages
+
+-- A transfer went on from x to y, and no further than to the last page.
+abbrev pub Within : ℕ → Transfer → Transfer → Type 0
+Within pages x y = x.cursor ≤ pages → y.cursor ≤ pages
 
 -- A part of a pass, from the transfer x to y. clean: how many pages that were looked at are dirty again; todo: what is sent and what is still to be sent.
 -- Both grow no faster than the guest writes.

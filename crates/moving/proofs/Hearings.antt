@@ -1,13 +1,13 @@
 -- A letter more, and the whole row.
 -- Assumes nothing.
-use Rattle.std.proofs.Common.{◌≡◌, ℕ, ◌+◌, ◌-◌, ◌*◌, ◌<◌, ◌≤◌, Bool, true, false, List, [], ◌∷◌, length, Some, None, Option, sym, refl, ap, ◌∙◌, subst, arith}
+use Rattle.std.proofs.Common.{◌≡◌, ℕ, ◌+◌, ◌≤◌, Bool, true, false, List, [], ◌∷◌, length, Some, None, Option, sym, refl, ap, ◌∙◌, subst, arith}
 use borrow.Author.Tests.{both_ways}
 use Rattle.letter.specs.declared.Letter.{Letter}
 use Rattle.letter.specs.Words.{letter_of}
 use Rattle.moving.specs.declared.Node.{Node}
 use Rattle.moving.specs.Hosts.{World, head_is, rest'}
 use Rattle.moving.specs.Model.{heeded, heeded_if}
-use Rattle.moving.specs.Calm.{row_here, row_there, hears, Still, Pulled, Hearing, HeardAll}
+use Rattle.moving.specs.Calm.{row_here, hears, Still, Pulled, Hearing, HeardAll}
 use Rattle.moving.proofs.Calms.{calm_self, calm_then, rests_then, still_self}
 
 head_false : (r : List (List ℕ)) (l : List ℕ) → head_is r false l → r ≡ []
