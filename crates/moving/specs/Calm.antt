@@ -115,7 +115,7 @@ Asked x w = w.rough ≡ false → heads (row_there w) ≡ asked_of x.attempt x.w
 unfoldable pub todo : Transfer → World → ℕ
 todo x w = count_from (λ q. (me w).touched q || member x.unsent q) x.cursor w.pages
 
--- A transfer went on from x to y, and no further than to the last page.
+-- If the transfer x is not past the last page, y is not either.
 abbrev pub Within : ℕ → Transfer → Transfer → Type 0
 Within pages x y = x.cursor ≤ pages → y.cursor ≤ pages
 

@@ -14,3 +14,15 @@ pub record Used (n : ℕ) (w : World) (ok : Bool) (v : World) : Type 0 where
   pub fell : ok ≡ not v.fell
   pub pages : v.pages ≡ w.pages
   pub fall : (ok || v.rough) ≡ true
+
+-- The calm rounds that the world has counted are those that it had, whatever has happened since.
+pub record Steady (w v : World) : Type 0 where
+  pub calm : v.calm ≡ w.calm
+  pub still : v.still ≡ w.still
+
+-- Of a whole turn: the guest has as many pages as before, a fall makes it rough, and the calm rounds that are counted are those that were.
+pub record Counts (w : World) (ok : Bool) (v : World) : Type 0 where
+  pub pages : v.pages ≡ w.pages
+  pub fall : (ok || v.rough) ≡ true
+  pub calm : v.calm ≡ w.calm
+  pub still : v.still ≡ w.still

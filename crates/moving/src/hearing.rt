@@ -1,7 +1,7 @@
 // What each letter makes of a node.
 ghost use Rattle.std.specs.Prelude.{◌≡◌, ℕ, ◌+◌, ◌-◌, ◌*◌, ◌<◌, ◌≤◌, Bool, true, false, List, [], ◌∷◌, length, is_ok, IfOk, Some, None, OnOk};
 ghost use Rattle.letter.specs.Words.{spelt};
-ghost use Rattle.moving.specs.Used.{Soon, Used};
+ghost use Rattle.moving.specs.Used.{Soon, Used, Steady};
 ghost use Rattle.moving.specs.Calm.{row_here, Still, Hearing, HeardAll};
 ghost use Rattle.moving.specs.Model.{Tidy, Windowed, moving, begins, probed, received, taken, refused, refused_in, acked, acked_in, gone_in, on_state, heeded};
 ghost use Rattle.moving.specs.Acted.{Heard, OneHeard};
@@ -34,6 +34,7 @@ impl Node {
         requires ready { Ready 0 (spelt l.now ∷ []) self.old (P.world w.old) }
         requires kind { l.now.kind ≡ Kind.Probe }
         ensures used { Used 1 (P.world w.old) (is_ok result) (P.world w.new) }
+        ensures steady { Steady (P.world w.old) (P.world w.new) }
         ensures is { OnOk result (self.new ≡ probed l.now.attempt self.old) }
         ensures line { OnOk result (Still (P.world w.old) (P.world w.new)) }
         ensures awake { OnOk result (self.new.awake ≡ true) }
@@ -62,6 +63,7 @@ impl Node {
         requires ready { Ready 0 (spelt l.now ∷ []) self.old (P.world w.old) }
         requires kind { l.now.kind ≡ Kind.Page }
         ensures used { Used 1 (P.world w.old) (is_ok result) (P.world w.new) }
+        ensures steady { Steady (P.world w.old) (P.world w.new) }
         ensures is { OnOk result (self.new ≡ received (P.world w.old).pages l.now self.old) }
         ensures line { OnOk result (Still (P.world w.old) (P.world w.new)) }
         ensures awake { OnOk result (self.new.awake ≡ true) }
@@ -91,6 +93,7 @@ impl Node {
         requires ready { Ready 0 (spelt l.now ∷ []) self.old (P.world w.old) }
         requires kind { l.now.kind ≡ Kind.Commit }
         ensures used { Used 1 (P.world w.old) (is_ok result) (P.world w.new) }
+        ensures steady { Steady (P.world w.old) (P.world w.new) }
         ensures is { OnOk result (self.new ≡ taken l.now.attempt self.old) }
         ensures line { OnOk result (Still (P.world w.old) (P.world w.new)) }
         ensures awake { OnOk result (self.new.awake ≡ true) }
@@ -119,6 +122,7 @@ impl Node {
         requires ready { Ready 0 (spelt l.now ∷ []) (on_state (State.Committed x) self.old) (P.world w.old) }
         requires kind { l.now.kind ≡ Kind.Refuse }
         ensures used { Used 1 (P.world w.old) (is_ok result) (P.world w.new) }
+        ensures steady { Steady (P.world w.old) (P.world w.new) }
         ensures is { OnOk result (self.new ≡ refused l.now.attempt (on_state (State.Committed x) self.old)) }
         ensures line { OnOk result (Still (P.world w.old) (P.world w.new)) }
         ensures awake { OnOk result (self.new.awake ≡ true) }
@@ -147,6 +151,7 @@ impl Node {
         requires tidy { Tidy (on_state (State.Paused x) self.old) }
         requires ready { Ready 0 (spelt l.now ∷ []) (on_state (State.Paused x) self.old) (P.world w.old) }
         ensures used { Used 1 (P.world w.old) (is_ok result) (P.world w.new) }
+        ensures steady { Steady (P.world w.old) (P.world w.new) }
         ensures is { OnOk result (self.new ≡ refused l.now.attempt (on_state (State.Paused x) self.old)) }
         ensures line { OnOk result (Still (P.world w.old) (P.world w.new)) }
         ensures awake { OnOk result (self.new.awake ≡ true) }
@@ -172,6 +177,7 @@ impl Node {
         requires ready { Ready 0 (spelt l.now ∷ []) self.old (P.world w.old) }
         requires kind { l.now.kind ≡ Kind.Refuse }
         ensures used { Used 1 (P.world w.old) (is_ok result) (P.world w.new) }
+        ensures steady { Steady (P.world w.old) (P.world w.new) }
         ensures is { OnOk result (self.new ≡ refused l.now.attempt self.old) }
         ensures line { OnOk result (Still (P.world w.old) (P.world w.new)) }
         ensures awake { OnOk result (self.new.awake ≡ true) }
@@ -201,6 +207,7 @@ impl Node {
         requires ready { Ready 0 (spelt l.now ∷ []) self.old (P.world w.old) }
         requires kind { l.now.kind ≡ Kind.Ack }
         ensures used { Used 1 (P.world w.old) (is_ok result) (P.world w.new) }
+        ensures steady { Steady (P.world w.old) (P.world w.new) }
         ensures is { OnOk result (self.new ≡ on_state (acked_in l.now.attempt l.now.place self.old.state) self.old) }
         ensures line { OnOk result (Still (P.world w.old) (P.world w.new)) }
         ensures awake { OnOk result (self.new.awake ≡ true) }
@@ -220,6 +227,7 @@ impl Node {
         requires ready { Ready 0 (spelt l.now ∷ []) self.old (P.world w.old) }
         requires kind { l.now.kind ≡ Kind.Taken }
         ensures used { Used 1 (P.world w.old) (is_ok result) (P.world w.new) }
+        ensures steady { Steady (P.world w.old) (P.world w.new) }
         ensures is { OnOk result (self.new ≡ on_state (gone_in l.now.attempt self.old.state) self.old) }
         ensures line { OnOk result (Still (P.world w.old) (P.world w.new)) }
         ensures awake { OnOk result (self.new.awake ≡ true) }
@@ -242,6 +250,7 @@ impl Node {
         requires tidy { Tidy self.old }
         requires ready { Ready 0 (spelt l.now ∷ []) self.old (P.world w.old) }
         ensures used { Used 1 (P.world w.old) (is_ok result) (P.world w.new) }
+        ensures steady { Steady (P.world w.old) (P.world w.new) }
         ensures is { OnOk result (self.new ≡ heeded (P.world w.old).pages l.now self.old) }
         ensures line { OnOk result (Still (P.world w.old) (P.world w.new)) }
         ensures awake { OnOk result (self.new.awake ≡ true) }
@@ -265,6 +274,7 @@ impl Node {
         requires tidy { Tidy self.old }
         requires ready { Ready 0 [] self.old (P.world w.old) }
         ensures used { Used 2 (P.world w.old) (is_ok result) (P.world w.new) }
+        ensures steady { Steady (P.world w.old) (P.world w.new) }
         ensures one { IfOk result (λ k. (k ≤ 1) × ((P.world w.old).left ≤ (P.world w.new).left + k + 1)) }
         ensures awake { OnOk result (self.new.awake ≡ true) }
         ensures tidy { OnOk result (Tidy self.new) }
@@ -293,6 +303,7 @@ impl Node {
         requires tidy { Tidy self.old }
         requires ready { Ready 0 [] self.old (P.world w.old) }
         ensures used { Used 128 (P.world w.old) (is_ok result) (P.world w.new) }
+        ensures steady { Steady (P.world w.old) (P.world w.new) }
         ensures rest { IfOk result (λ m. (m ≤ (P.world w.new).left) × (most ≤ m + 128)) }
         ensures awake { OnOk result (self.new.awake ≡ true) }
         ensures tidy { OnOk result (Tidy self.new) }

@@ -7,6 +7,7 @@ ghost use Rattle.moving.specs.Promise.{OneTruth, LostStays};
 ghost use Rattle.moving.specs.Model.{Rested};
 ghost use Rattle.moving.specs.Invariant.{fresh, Ready, Keeps};
 ghost use Rattle.moving.specs.Acted.{Turned};
+ghost use Rattle.moving.specs.Used.{Counts};
 ghost use Rattle.moving.specs.Over.{TurnedOver};
 
 // The host has fallen: nothing that it knows is left but its cells.
@@ -152,6 +153,7 @@ impl Node {
         ensures rested { OnOk result (Rested self.new) }
         ensures is { OnOk result (Turned (P.world w.old) self.old self.new) }
         ensures makes { OnOk result (TurnedOver (P.world w.old) self.old self.new (P.world w.new)) }
+        ensures counts { Counts (P.world w.old) (is_ok result) (P.world w.new) }
         ensures keeps { Keeps 64 [] self.old (P.world w.old) result (λ _. self.new) (P.world w.new) }
     {
         let left = self.wake(w)?;

@@ -11,6 +11,7 @@ returns g c =
     let e : c.acked-self.result ≡ acked_in c.args.l.now.attempt c.args.l.now.place c.args.self.now.state = c.acked-self.ensures ∙ ap (acked_in c.args.l.now.attempt c.args.l.now.place) c.replace-state.ensures.value in
     record {
       used = search rules;
+      steady = search rules;
       is = ap (λ s. on_state s c.args.self.now) e;
       line = still_self _;
       awake = c.requires.awake;

@@ -14,6 +14,7 @@ returns-in_err-commit g c =
     record {
       line = unmade _ _ e;
       used = search rules;
+      steady = search rules;
       tidy = unmade _ _ e;
       awake = unmade _ _ e;
       is = unmade _ _ e;
@@ -28,6 +29,7 @@ returns-in_err-tell g c =
     record {
       line = unmade _ _ e;
       used = search rules;
+      steady = search rules;
       tidy = unmade _ _ e;
       awake = unmade _ _ e;
       is = unmade _ _ e;
@@ -41,6 +43,7 @@ returns g c =
     record {
       line = still_added _ c.in_ok-commit.ensures.line c.in_ok-tell.ensures.line;
       used = search rules;
+      steady = search rules;
       tidy = record { windowed = tt; asked = c.requires.tidy.asked };
       awake = c.requires.awake;
       is = refl;

@@ -9,6 +9,7 @@ pub returns-in_default : goal.returns-in_default
 returns-in_default g c =
     record {
       used = search rules;
+      steady = search rules;
       is = commit_none_is c.args.self.now c.args.l.now.attempt c.in_default.not-Receiving;
       line = still_self _;
       awake = c.requires.awake;
@@ -20,6 +21,7 @@ pub returns-then-x-t : goal.returns-then-x-t
 returns-then-x-t g c =
     record {
       used = search rules;
+      steady = search rules;
       is = commit_other_is c.args.self.now c.args.l.now.attempt c.in-Receiving.x c.in-Receiving.is c.if-x-t.true;
       line = still_self _;
       awake = c.requires.awake;
@@ -38,6 +40,7 @@ pub returns-in_err-resume : goal.returns-in_err-resume
 returns-in_err-resume g c =
     record {
       used = search rules;
+      steady = search rules;
       is = unmade c.from_residual.result _ c.from_residual.ensures.0;
       line = unmade c.from_residual.result _ c.from_residual.ensures.0;
       awake = unmade c.from_residual.result _ c.from_residual.ensures.0;
@@ -49,6 +52,7 @@ pub returns : goal.returns
 returns g c =
     record {
       used = search rules;
+      steady = search rules;
       is = commit_is c.args.self.now c.args.l.now.attempt c.in-Receiving.x c.in-Receiving.is c.if-x-t.false;
       line = c.in_ok-resume.ensures.line;
       awake = c.requires.awake;

@@ -35,6 +35,7 @@ returns-in_err-go_on g c =
     let e = c.from_residual.ensures.0 in
     record {
       used = search rules;
+      steady = search rules;
       tidy = unmade _ _ e;
       awake = unmade _ _ e;
       is = unmade _ _ e;
@@ -48,6 +49,7 @@ returns-then-not-is_over g c =
     let y = c.tick-y.result in
     record {
       used = search rules;
+      steady = search rules;
       tidy = record { windowed = c.in_ok-go_on.ensures.sound; asked = c.requires.tidy.asked };
       awake = c.requires.awake;
       is = on (search rules) (record { after = c.go_on.new.self; goes = subst (λ d. GoneOn (g.P.Place.world c.args.w.now).pages c.args.most d c.go_on.new.self) c.tick-y.ensures c.in_ok-go_on.ensures.is; node = refl });
@@ -75,6 +77,7 @@ returns-in_err-go_on-2 g c =
     let e = c.from_residual-in_err-go_on-2.ensures.0 in
     record {
       used = search rules;
+      steady = search rules;
       tidy = unmade _ _ e;
       awake = unmade _ _ e;
       is = unmade _ _ e;
@@ -88,6 +91,7 @@ returns-then-y-gt-LONG_PASS g c =
     let y = c.tick-y-2.result in
     record {
       used = search rules;
+      steady = search rules;
       tidy = record { windowed = c.in_ok-go_on-2.ensures.sound; asked = c.requires.tidy.asked };
       awake = c.requires.awake;
       is = again (search rules) (search rules) (record { after = c.go_on-then-y-gt-LONG_PASS.new.self; goes = subst (λ d. GoneOn (g.P.Place.world c.args.w.now).pages c.args.most d c.go_on-then-y-gt-LONG_PASS.new.self) (c.tick-y-2.ensures ∙ ap ticked c.anew.ensures) c.in_ok-go_on-2.ensures.is; node = refl });
@@ -103,6 +107,7 @@ returns-in_err-right g c =
     let e = c.from_residual-in_err-right.ensures.0 in
     record {
       used = search rules;
+      steady = search rules;
       tidy = unmade _ _ e;
       awake = unmade _ _ e;
       is = unmade _ _ e;
@@ -132,6 +137,7 @@ returns-in_err-go_on-3 g c =
     let e = c.from_residual-in_err-go_on-3.ensures.0 in
     record {
       used = search rules;
+      steady = search rules;
       tidy = unmade _ _ e;
       awake = unmade _ _ e;
       is = unmade _ _ e;
@@ -147,6 +153,7 @@ returns g c =
     let z : Pause = record { transfer = y; right = c.in_ok-right.right; turns = 1 } in
     record {
       used = search rules;
+      steady = search rules;
       tidy = record { windowed = (c.in_ok-go_on-3.ensures.sound, c.in_ok-right.ensures.right ∙ sym (gone_attempt c.in_ok-go_on-3.ensures.is)); asked = c.requires.tidy.asked };
       awake = c.requires.awake;
       is = stops (search rules) (search rules) (record { after = c.go_on-2.new.self; goes = subst (λ d. GoneOn (g.P.Place.world c.args.w.now).pages (c.args.most - 1) d c.go_on-2.new.self) (c.tick-y-2.ensures ∙ ap ticked c.anew.ensures) (subst (λ p. GoneOn p (c.args.most - 1) y c.go_on-2.new.self) c.in_ok-right.ensures.used.pages c.in_ok-go_on-3.ensures.is); node = search rules });

@@ -20,6 +20,7 @@ returns-in_err-resume g c =
     let e = c.from_residual.ensures.0 in
     record {
       used = search rules;
+      steady = search rules;
       tidy = unmade _ _ e;
       awake = unmade _ _ e;
       is = unmade _ _ e;
@@ -49,6 +50,7 @@ returns-in_err-go_on g c =
     let e = c.from_residual-in_err-go_on.ensures.0 in
     record {
       used = search rules;
+      steady = search rules;
       tidy = unmade _ _ e;
       awake = unmade _ _ e;
       is = unmade _ _ e;
@@ -65,6 +67,7 @@ returns g c =
     let k = c.in_ok-resume.ensures in
     record {
       used = search rules;
+      steady = search rules;
       tidy = record { windowed = c.in_ok-go_on.ensures.sound; asked = c.requires.tidy.asked };
       awake = c.requires.awake;
       is = record { after = c.go_on.new.self; goes = subst (λ d. GoneOn (g.P.Place.world c.args.w.now).pages (c.args.most - 1) d c.go_on.new.self) e (subst (λ p. GoneOn p (c.args.most - 1) y c.go_on.new.self) c.in_ok-resume.ensures.used.pages c.in_ok-go_on.ensures.is); node = ap (λ (d : Transfer). on_state (Copying c.go_on.new.self) (took_for d.attempt n)) e };

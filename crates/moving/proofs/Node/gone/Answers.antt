@@ -11,6 +11,7 @@ returns-in_default g c =
     record {
       line = still_self _;
       used = search rules;
+      steady = search rules;
       is = gone_none_is c.args.self.now c.args.l.now.attempt c.in_default.not-Committed;
       awake = c.requires.awake;
       tidy = c.requires.tidy;
@@ -22,6 +23,7 @@ returns-then-x-l g c =
     record {
       line = still_self _;
       used = search rules;
+      steady = search rules;
       is = gone_is c.args.self.now c.args.l.now.attempt c.in-Committed.x c.in-Committed.is c.if-x-l.true;
       awake = c.requires.awake;
       tidy = tidy_to c.args.self.now Away tt c.requires.tidy;
@@ -33,6 +35,7 @@ returns-else-x-l g c =
     record {
       line = still_self _;
       used = search rules;
+      steady = search rules;
       is = gone_other_is c.args.self.now c.args.l.now.attempt c.in-Committed.x c.in-Committed.is c.if-x-l.false;
       awake = c.requires.awake;
       tidy = c.requires.tidy;

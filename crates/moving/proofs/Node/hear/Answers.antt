@@ -4,6 +4,7 @@ use Rattle.moving.specs.Calm.{Hearing}
 use Rattle.std.proofs.lemmas.Bool.{ltb-true, ltb-false}
 use Rattle.moving.proofs.Hearings.{either_way, hearing_self, hearing_then, heard_out, heard_full}
 use Rattle.moving.specs.Acted.{none}
+use Rattle.moving.proofs.Uses.{steady_then}
 use Rattle.moving.proofs.Heard.{used_more, used_err, hear_more}
 use Rattle.moving.proofs.Ways.{unmade, begin, then_call, ends_ok, ends_call, ready}
 use Rattle.moving.proofs.Node.hear.Goals as goal
@@ -12,6 +13,7 @@ pub loop-n-init : goal.loop-n-init
 loop-n-init g c =
     record {
       used = search rules;
+      steady = search rules;
       left = omega arith;
       cost = omega arith;
       few = omega arith;
@@ -38,6 +40,7 @@ pub returns-in_err-k : goal.returns-in_err-k
 returns-in_err-k g c =
     record {
       used = used_err 128 c.from_residual.result c.from_residual.ensures.0 c.loop-n.invariant.used c.in_err-k.ensures.used (omega arith);
+      steady = steady_then c.loop-n.invariant.steady c.in_err-k.ensures.steady;
       line = unmade c.from_residual.result _ c.from_residual.ensures.0;
       cost = unmade c.from_residual.result _ c.from_residual.ensures.0;
       rest = unmade c.from_residual.result _ c.from_residual.ensures.0;
@@ -59,6 +62,7 @@ loop-n-preserved g c =
     let so_far = was.all c.if-more.true in
     record {
       used = record { left = omega arith; fell = u.fell; pages = u.pages ∙ c.loop-n.invariant.used.pages; fall = refl };
+      steady = steady_then c.loop-n.invariant.steady c.in_ok-k.ensures.steady;
       left = omega arith;
       cost = omega arith;
       few = omega arith;
@@ -76,6 +80,7 @@ pub returns-else-more : goal.returns-else-more
 returns-else-more g c =
     record {
       used = used_more 128 c.loop-n.invariant.used (omega arith);
+      steady = c.loop-n.invariant.steady;
       line = heard_out c.loop-n.invariant.line.hearing (c.loop-n.invariant.none c.if-more.false);
       cost = λ q. let n = c.loop-n.invariant.line.hearing.count q in let e = c.loop-n.invariant.line.last c.if-more.false in let l = c.loop-n.invariant.less c.if-more.false in omega arith;
       rest = (omega arith, omega arith);
@@ -90,6 +95,7 @@ pub returns-after-loop-n : goal.returns-after-loop-n
 returns-after-loop-n g c =
     record {
       used = used_more 128 c.loop-n.invariant.used (omega arith);
+      steady = c.loop-n.invariant.steady;
       line = either_way c.loop-n.more (λ e. heard_full c.loop-n.invariant.line.k (let k = c.loop-n.invariant.line.all e in let f = c.loop-n.invariant.few in let t = c.loop-n-test.false in omega arith) c.loop-n.invariant.line.hearing) (λ e. heard_out c.loop-n.invariant.line.hearing (c.loop-n.invariant.none e));
       cost = λ q. let n = c.loop-n.invariant.line.hearing.count q in either_way c.loop-n.more (λ e. let k = c.loop-n.invariant.line.all e in let l = c.loop-n.invariant.cost in omega arith) (λ e. let k = c.loop-n.invariant.line.last e in let l = c.loop-n.invariant.less e in omega arith);
       rest = (omega arith, omega arith);

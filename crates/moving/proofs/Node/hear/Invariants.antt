@@ -1,5 +1,5 @@
 use Rattle.std.proofs.Common.{◌≡◌, ℕ, ◌+◌, ◌-◌, ◌*◌, ◌≤◌, true, false, [], None}
-use Rattle.moving.specs.Used.{Used}
+use Rattle.moving.specs.Used.{Used, Steady}
 use Rattle.moving.specs.Model.{Tidy, moving}
 use Rattle.moving.specs.Acted.{Heard}
 use Rattle.moving.specs.Calm.{row_here, Hearing}
@@ -10,6 +10,7 @@ abbrev pub invariant-loop-n : goal.invariant-loop-n
 invariant-loop-n g l =
     record {
       used : Used (l.most - l.left) (g.P.Place.world l.initial.w) true (g.P.Place.world l.w);
+      steady : Steady (g.P.Place.world l.initial.w) (g.P.Place.world l.w);
       left : l.left ≤ l.most;
       cost : l.most ≤ l.left + 2 * l.n;
       few : l.n ≤ 64;

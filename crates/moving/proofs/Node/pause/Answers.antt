@@ -18,6 +18,7 @@ pub returns-then-is_over : goal.returns-then-is_over
 returns-then-is_over g c =
     record {
       used = search rules;
+      steady = search rules;
       tidy = c.commit.ensures.tidy;
       awake = c.commit.ensures.awake;
       is = search rules;
@@ -49,6 +50,7 @@ returns-in_err-go_on g c =
     let e = c.from_residual.ensures.0 in
     record {
       used = search rules;
+      steady = search rules;
       tidy = unmade _ _ e;
       awake = unmade _ _ e;
       is = unmade _ _ e;
@@ -64,6 +66,7 @@ returns g c =
     let z : Pause = record { transfer = y; right = x.right; turns = x.turns + 1 } in
     record {
       used = search rules;
+      steady = search rules;
       tidy = record { windowed = (c.in_ok-go_on.ensures.sound, c.requires.tidy.windowed.1 ∙ ap (λ (d : Transfer). d.attempt) (sym c.tick-y.ensures) ∙ sym (gone_attempt c.in_ok-go_on.ensures.is)); asked = c.requires.tidy.asked };
       awake = c.requires.awake;
       is = goes (search rules) (search rules) (record { after = c.go_on.new.self; goes = subst (λ d. GoneOn (g.P.Place.world c.args.w.now).pages c.args.most d c.go_on.new.self) c.tick-y.ensures c.in_ok-go_on.ensures.is; node = refl });

@@ -12,6 +12,7 @@ pub returns-then-x-t : goal.returns-then-x-t
 returns-then-x-t g c =
     record {
       used = search rules;
+      steady = search rules;
       is = refuse_other_is c.args.l.now.attempt c.args.x c.args.self.now c.if-x-t.true;
       line = still_self _;
       awake = c.requires.awake;
@@ -23,6 +24,7 @@ pub returns-then-not-x : goal.returns-then-not-x
 returns-then-not-x g c =
     record {
       used = search rules;
+      steady = search rules;
       is = refuse_away_is c.args.l.now.attempt c.args.x c.args.self.now c.if-x-t.false (not-true c.args.x.mine c.if-not-x.true);
       line = still_self _;
       awake = c.requires.awake;
@@ -41,6 +43,7 @@ pub returns-in_err-resume : goal.returns-in_err-resume
 returns-in_err-resume g c =
     record {
       used = search rules;
+      steady = search rules;
       is = unmade c.from_residual.result _ c.from_residual.ensures.0;
       line = unmade c.from_residual.result _ c.from_residual.ensures.0;
       awake = unmade c.from_residual.result _ c.from_residual.ensures.0;
@@ -52,6 +55,7 @@ pub returns : goal.returns
 returns g c =
     record {
       used = search rules;
+      steady = search rules;
       is = refuse_commit_is c.args.l.now.attempt c.args.x c.args.self.now c.if-x-t.false (not-false c.args.x.mine c.if-not-x.false);
       line = c.in_ok-resume.ensures.line;
       awake = c.requires.awake;

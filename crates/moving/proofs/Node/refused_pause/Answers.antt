@@ -11,6 +11,7 @@ pub returns-then-x-t : goal.returns-then-x-t
 returns-then-x-t g c =
     record {
       used = search rules;
+      steady = search rules;
       is = refuse_unpaused_is c.args.l.now.attempt c.args.x c.args.self.now c.if-x-t.true;
       line = still_self _;
       awake = c.requires.awake;
@@ -22,6 +23,7 @@ pub returns-in_err-resume : goal.returns-in_err-resume
 returns-in_err-resume g c =
     record {
       used = search rules;
+      steady = search rules;
       is = unmade c.from_residual.result _ c.from_residual.ensures.0;
       line = unmade c.from_residual.result _ c.from_residual.ensures.0;
       awake = unmade c.from_residual.result _ c.from_residual.ensures.0;
@@ -33,6 +35,7 @@ pub returns : goal.returns
 returns g c =
     record {
       used = search rules;
+      steady = search rules;
       is = refuse_pause_is c.args.l.now.attempt c.args.x c.args.self.now c.if-x-t.false;
       line = c.in_ok-resume.ensures.line;
       awake = c.requires.awake;

@@ -21,6 +21,7 @@ returns-in_err-wants g c =
     let e = c.from_residual.ensures.0 in
     record {
       used = search rules;
+      steady = search rules;
       tidy = unmade _ _ e;
       awake = unmade _ _ e;
       is = unmade _ _ e;
@@ -33,6 +34,7 @@ returns-then-not-branch g c =
     let q = c.in_ok-wants.ensures in
     record {
       used = search rules;
+      steady = search rules;
       tidy = ran_tidy c.args.self.now c.wants.new.self c.args.x c.in_ok-wants.field-0 q.is c.requires.tidy;
       awake = ap (λ (n : Node). n.awake) q.is ∙ c.requires.awake;
       is = search rules;
@@ -57,6 +59,7 @@ returns-in_err-attempt g c =
     let e = c.from_residual-in_err-attempt.ensures.0 in
     record {
       used = search rules;
+      steady = search rules;
       tidy = unmade _ _ e;
       awake = unmade _ _ e;
       is = unmade _ _ e;
@@ -91,6 +94,7 @@ returns-in_err-go_on g c =
     let e = c.from_residual-in_err-go_on.ensures.0 in
     record {
       used = search rules;
+      steady = search rules;
       tidy = unmade _ _ e;
       awake = unmade _ _ e;
       is = unmade _ _ e;
@@ -109,6 +113,7 @@ returns g c =
     let k = still_then q.line r.line in
     record {
       used = search rules;
+      steady = search rules;
       tidy = run_tidy c.args.self.now c.wants.new.self c.attempt.new.self c.args.x c.in_ok-wants.field-0 c.in_ok-attempt.field-0.attempt c.go_on.new.self q.is r.is r.new.2 c.in_ok-go_on.ensures.sound c.requires.tidy;
       awake = ap (λ (n : Node). n.awake) r.is ∙ ap (λ (n : Node). n.awake) q.is ∙ c.requires.awake;
       is = begins c.in_ok-attempt.field-0 (sym q.value ∙ c.if-not-branch.false) (record { above = p.above; least = p.least; own = p.own; empty = p.empty; base = p.base; all = p.all; cursor = p.cursor; sent = p.sent; turns = p.turns; prev = p.prev })

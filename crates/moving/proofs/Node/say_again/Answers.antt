@@ -14,6 +14,7 @@ returns-in_err-tell g c =
     record {
       line = unmade _ _ e;
       used = search rules;
+      steady = search rules;
       tidy = unmade _ _ e;
       awake = unmade _ _ e;
       is = unmade _ _ e;
@@ -26,6 +27,7 @@ returns g c =
     record {
       line = c.in_ok-tell.ensures.line;
       used = search rules;
+      steady = search rules;
       tidy = record { windowed = tt; asked = c.requires.tidy.asked };
       awake = c.requires.awake;
       is = ap (λ t. on_state (Committed (recommit c.args.x t)) c.args.self.now) c.saturating_add.ensures;

@@ -24,13 +24,14 @@ pub returns-in_err-send_page : goal.returns-in_err-send_page
 returns-in_err-send_page g c =
     record {
       used = search rules;
+      steady = search rules;
       line = unmade _ _ c.from_residual.ensures.0;
       asked = unmade _ _ c.from_residual.ensures.0;
       keeps = λ n has. ends_call 0 _ c.from_residual.result c.from_residual.ensures.0 (c.loop-i.invariant.so n has) (c.in_err-send_page.ensures.keeps n has) (omega arith);
     }
 
 pub loop-i-init : goal.loop-i-init
-loop-i-init g c = record { used = search rules; line = passed_self c.args.self.now (g.P.Place.world c.args.w.now); asked = λ a. a; so = λ n has. begin [] n (g.P.Place.world c.args.w.now) c.requires.soon.up }
+loop-i-init g c = record { used = search rules; steady = search rules; line = passed_self c.args.self.now (g.P.Place.world c.args.w.now); asked = λ a. a; so = λ n has. begin [] n (g.P.Place.world c.args.w.now) c.requires.soon.up }
 
 pub loop-i-preserved : goal.loop-i-preserved
 loop-i-preserved g c =
@@ -43,6 +44,7 @@ loop-i-preserved g c =
     let a : Added (head Page x.attempt (x.window.base + c.loop-i.i) (slot x c.loop-i.i)) (g.P.Place.world c.loop-i.w) (g.P.Place.world c.send_page.new.w) = subst₂ (λ a b. Added (head Page x.attempt a b) (g.P.Place.world c.loop-i.w) (g.P.Place.world c.send_page.new.w)) place at s.line in
     record {
       used = search rules;
+      steady = search rules;
       line = passed_then c.loop-i.invariant.line (passed_same x a.calmly a.rests s.used.pages a.own);
       asked = λ d. asked_next x c.loop-i.i c.requires.sound (omega arith) a (c.loop-i.invariant.asked d);
       so = λ n has.
@@ -57,6 +59,7 @@ returns g c =
     let len = c.len-i-end.ensures.is in
     record {
       used = search rules;
+      steady = search rules;
       line = c.loop-i.invariant.line;
       asked = λ a. asked_all x c.loop-i.i _ c.requires.sound (search rules) (c.loop-i.invariant.asked a);
       keeps = λ n has. ends_ok 0 (omega arith) (subst (λ m. SoFar [] n (g.P.Place.world c.args.w.now) 0 [] m (g.P.Place.world c.loop-i.w)) (sym (carry_self n x has)) (c.loop-i.invariant.so n has));

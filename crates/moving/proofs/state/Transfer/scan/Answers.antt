@@ -17,6 +17,7 @@ loop-left-init g c =
       pages = c.pages-pages.ensures;
       few = omega arith;
       used = search rules;
+      steady = search rules;
       sound = c.requires.sound;
       below = λ k lt. absurd (omega arith);
       looks = record { answers = []; looks = none };
@@ -55,6 +56,7 @@ returns-in_err-k g c =
     let e = c.from_residual.ensures.0 in
     record {
       used = search rules;
+      steady = search rules;
       is = unmade _ _ e;
       within = unmade _ _ e;
       line = unmade _ _ e;
@@ -77,6 +79,7 @@ loop-left-preserved g c =
       pages = i.pages ∙ sym l.used.pages;
       few = search rules;
       used = search rules;
+      steady = search rules;
       sound = l.sound.0;
       below = l.sound.1;
       looks = record { answers = _; looks = more _ _ _ _ i.looks.looks l.is };
@@ -94,16 +97,16 @@ pub returns-else-self-pages : goal.returns-else-self-pages
 returns-else-self-pages g c =
     let s = c.loop-left.invariant.sound.room in
     let paid = c.loop-left.invariant.cost in
-    record { used = search rules; within = λ h. search rules; line = c.loop-left.invariant.line; asked = c.loop-left.invariant.asked; is = record { answers = c.loop-left.invariant.looks.answers; looks = c.loop-left.invariant.looks.looks; cost = omega arith; ends = inr (inr (search rules)) }; sound = c.loop-left.invariant.sound; keeps = λ n has. ends_ok 62 (omega arith) (c.loop-left.invariant.so n has) }
+    record { used = search rules; steady = search rules; within = λ h. search rules; line = c.loop-left.invariant.line; asked = c.loop-left.invariant.asked; is = record { answers = c.loop-left.invariant.looks.answers; looks = c.loop-left.invariant.looks.looks; cost = omega arith; ends = inr (inr (search rules)) }; sound = c.loop-left.invariant.sound; keeps = λ n has. ends_ok 62 (omega arith) (c.loop-left.invariant.so n has) }
 
 pub returns-else-not-is_full : goal.returns-else-not-is_full
 returns-else-not-is_full g c =
     let s = c.loop-left.invariant.sound.room in
     let paid = c.loop-left.invariant.cost in
-    record { used = search rules; within = λ h. search rules; line = c.loop-left.invariant.line; asked = c.loop-left.invariant.asked; is = record { answers = c.loop-left.invariant.looks.answers; looks = c.loop-left.invariant.looks.looks; cost = omega arith; ends = inr (inl (eqb-true c.loop-left.self.window.len 62 (sym c.is_full.ensures ∙ c.if-not-is_full.false))) }; sound = c.loop-left.invariant.sound; keeps = λ n has. ends_ok 62 (omega arith) (c.loop-left.invariant.so n has) }
+    record { used = search rules; steady = search rules; within = λ h. search rules; line = c.loop-left.invariant.line; asked = c.loop-left.invariant.asked; is = record { answers = c.loop-left.invariant.looks.answers; looks = c.loop-left.invariant.looks.looks; cost = omega arith; ends = inr (inl (eqb-true c.loop-left.self.window.len 62 (sym c.is_full.ensures ∙ c.if-not-is_full.false))) }; sound = c.loop-left.invariant.sound; keeps = λ n has. ends_ok 62 (omega arith) (c.loop-left.invariant.so n has) }
 
 pub returns-after-loop-left : goal.returns-after-loop-left
 returns-after-loop-left g c =
     let s = c.loop-left.invariant.sound.room in
     let paid = c.loop-left.invariant.cost in
-    record { used = search rules; within = λ h. search rules; line = c.loop-left.invariant.line; asked = c.loop-left.invariant.asked; is = record { answers = c.loop-left.invariant.looks.answers; looks = c.loop-left.invariant.looks.looks; cost = omega arith; ends = inl (omega arith) }; sound = c.loop-left.invariant.sound; keeps = λ n has. ends_ok 62 (omega arith) (c.loop-left.invariant.so n has) }
+    record { used = search rules; steady = search rules; within = λ h. search rules; line = c.loop-left.invariant.line; asked = c.loop-left.invariant.asked; is = record { answers = c.loop-left.invariant.looks.answers; looks = c.loop-left.invariant.looks.looks; cost = omega arith; ends = inl (omega arith) }; sound = c.loop-left.invariant.sound; keeps = λ n has. ends_ok 62 (omega arith) (c.loop-left.invariant.so n has) }
