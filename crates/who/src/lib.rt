@@ -6,7 +6,7 @@ ghost use Rattle.who.specs.Numbers.{numb, Names, shown};
 
 use std::fmt;
 
-#[derive(Clone, Copy, Debug, PartialEq, Eq)]
+#[derive(Clone, Copy, Debug, Eq, PartialEq)]
 pub enum Who {
     Zero,
     One,
