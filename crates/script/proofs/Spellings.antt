@@ -8,6 +8,7 @@ use Rattle.std.specs.List.{AllByRecursion as All}
 use Rattle.script.specs.declared.Command.{Command}
 use Rattle.script.specs.declared.Command.TheVariants.{Move, Round, Write, Fall, Lose, Again, Any, Where, Anew}
 use Rattle.script.specs.Reading.{led}
+use Rattle.who.specs.Numbers.{numb}
 use Rattle.script.specs.Spelling.{side, spelt, Valid}
 
 ascii_after : (front rest : List ℕ) → All (λ b. b < 128) front → IsAscii rest → IsAscii (front ++ rest)
@@ -24,7 +25,7 @@ ascii_spelt : (pages : ℕ) (c : Command) → Valid pages c → IsAscii (spelt c
 ascii_spelt pages Move v = IsAscii-from_all (spelt Move) (search rules)
 ascii_spelt pages (Round n) v = ascii_after (codes "round ") _ (search rules) (IsAscii-decimal n (omega arith))
 ascii_spelt pages (Write p w) v = ascii_after (codes "write ") _ (search rules) (ascii_led p _ (omega arith) (IsAscii-decimal w (omega arith)))
-ascii_spelt pages (Fall h k a) v = ascii_after (codes "fall ") _ (search rules) (ascii_led h _ (omega arith) (ascii_led k _ (omega arith) (ascii_side a)))
+ascii_spelt pages (Fall h k a) v = ascii_after (codes "fall ") _ (search rules) (ascii_led (numb h) _ (search rules) (ascii_led k _ (omega arith) (ascii_side a)))
 ascii_spelt pages (Lose n) v = ascii_after (codes "lose ") _ (search rules) (IsAscii-decimal n (omega arith))
 ascii_spelt pages Again v = IsAscii-from_all (spelt Again) (search rules)
 ascii_spelt pages (Any s n) v = ascii_after (codes "any ") _ (search rules) (ascii_led s _ (omega arith) (IsAscii-decimal n (omega arith)))
@@ -51,7 +52,7 @@ pub length_spelt : (pages : ℕ) (c : Command) → Valid pages c → length (spe
 length_spelt pages Move v = omega arith
 length_spelt pages (Round n) v = omega (arith, length_small n v)
 length_spelt pages (Write p w) v = omega (arith, length_led p (decimal w), length_small p v.1, length_number w v.2)
-length_spelt pages (Fall h k a) v = omega (arith, length_led h (led k (side a)), length_led k (side a), length_small h (omega arith), length_small k v.2, length_side a)
+length_spelt pages (Fall h k a) v = omega (arith, length_led (numb h) (led k (side a)), length_led k (side a), length_small (numb h) (search rules), length_small k v.1, length_side a)
 length_spelt pages (Lose n) v = omega (arith, length_small n v.1)
 length_spelt pages Again v = omega arith
 length_spelt pages (Any s n) v = omega (arith, length_led s (decimal n), length_number s v.0, length_small n v.1)

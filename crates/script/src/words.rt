@@ -6,10 +6,7 @@ ghost use Rattle.script.specs.Reading.{Leads, Parts, Plain, Reads};
 fn is_plain(text: &[u8]) -> bool
     ensures { Decides result (Plain text.now) }
 {
-    match text {
-        [b'+', ..] | [b'0', _, ..] => false,
-        _ => true,
-    }
+    !matches!(text, [b'+', ..] | [b'0', _, ..])
 }
 
 // The number that the text is, in the one way to write it: digits alone, and no nought in front.
