@@ -1,5 +1,5 @@
 -- The spelling of a command is ASCII, so UTF-8, and short.
-use Rattle.std.proofs.Common.{◌≡◌, ℕ, ◌+◌, ◌^◌, ◌<◌, ◌≤◌, Bool, true, false, List, ◌∷◌, ◌++◌, length, codes, IsUtf8, IsAscii, decimal, arith, length-append, rules}
+use Rattle.std.proofs.Common.{◌≡◌, ℕ, ◌+◌, ◌^◌, ◌<◌, ◌≤◌, Bool, true, false, List, ◌∷◌, ◌++◌, length, codes, IsUtf8, IsAscii, decimal, None, ap, arith, length-append, rules}
 use Rattle.std.proofs.lemmas.Str.Ascii.{IsAscii-cons}
 use Rattle.std.proofs.ByRecursion.{IsAscii-from_all}
 use Rattle.std.proofs.lemmas.Fmt.{IsAscii-decimal, length-decimal-le}
@@ -9,7 +9,7 @@ use Rattle.script.specs.declared.Command.{Command}
 use Rattle.script.specs.declared.Command.TheVariants.{Move, Round, Write, Fall, Lose, Again, Any, Where, Anew}
 use Rattle.script.specs.Reading.{led}
 use Rattle.who.specs.Numbers.{numb}
-use Rattle.script.specs.Spelling.{side, spelt, Valid}
+use Rattle.script.specs.Spelling.{side, spelt, Valid, Says}
 
 ascii_after : (front rest : List ℕ) → All (λ b. b < 128) front → IsAscii rest → IsAscii (front ++ rest)
 ascii_after front rest f r = IsAscii-append front rest (IsAscii-from_all front f) r
@@ -58,3 +58,7 @@ length_spelt pages Again v = omega arith
 length_spelt pages (Any s n) v = omega (arith, length_led s (decimal n), length_number s v.0, length_small n v.1)
 length_spelt pages Where v = omega arith
 length_spelt pages Anew v = omega arith
+
+-- no command has more than 64 bytes
+pub too_long : (pages : ℕ) (bs : List ℕ) → 64 < length bs → Says pages bs None
+too_long pages bs l = record { all = λ c v e. absurd (omega (arith, ap length e, length_spelt pages c v)); only = tt }
