@@ -10,6 +10,7 @@ fn is_plain(text: &[u8]) -> bool
 }
 
 // The number that the text is, in the one way to write it: digits alone, and no nought in front.
+#[tactic(auto, using(crate::proofs::Numbers::not_plain, crate::proofs::Numbers::parsed))]
 pub fn number(text: &str) -> Option<u64>
     ensures { Reads (λ n. n < 2 ^ 64) decimal text.now result }
 {
@@ -35,6 +36,7 @@ pub fn cut(text: &str) -> Option<(&str, &str)>
 }
 
 // The number before the first space, and what comes after that space.
+#[tactic(auto, using(crate::proofs::Numbers::not_led, crate::proofs::Numbers::not_led_by, crate::proofs::Numbers::led_by))]
 pub fn lead(text: &str) -> Option<(u64, &str)>
     ensures { Leads text.now result }
 {
