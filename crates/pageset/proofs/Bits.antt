@@ -1,18 +1,17 @@
 -- The bits of a list of words: after one was changed, and how many are set.
 use Rattle.std.proofs.Common.{◌≡◌, ℕ, zero, suc, ◌+◌, ◌-◌, ◌*◌, ◌/◌, ◌%◌, ◌^◌, ◌<◌, ◌≤◌, false, not, cond, ◌&&◌, ◌||◌, eqb, List, [], ◌∷◌, length, get_or, set, replicate, sym, refl, ap, ◌∙◌, inl, inr, arith, one-add, get_or-set_other, get_or-set_same, w64, bit_and, bit_or}
 use native.Mathlib.Nat.{zero-div}
-use Rattle.std.proofs.lemmas.Nat.Bits.{shr_and_one, bit_at_set_same, bit_at_set_other, bit_at_clear_same, bit_at_clear_other}
 use lib.Count.{ones}
 use Rattle.std.specs.List.{sum_by}
-use Rattle.std.proofs.lemmas.List.Sums.{sum_by-cons}
 use Rattle.std.proofs.lemmas.Nat.{pow_pos, shr_split, shr_below, mod_below, ones_cat}
-use Rattle.std.proofs.lemmas.Nat.Bits.{bit_at_cat_low}
-use Rattle.pageset.specs.Count.{bit, count}
-use Rattle.pageset.proofs.Counts.{count_same, count_add, count_most}
+use Rattle.std.proofs.lemmas.Nat.Bits.{shr_and_one, bit_at_set_same, bit_at_set_other, bit_at_clear_same, bit_at_clear_other, bit_at_cat_low}
 use Rattle.std.proofs.lemmas.List.{get_or-replicate, get_or_past}
+use Rattle.std.proofs.lemmas.List.Sums.{sum_by-cons}
 use Rattle.std.proofs.lemmas.Bool.{cases_eq, cases_lt, eq-eqb, ne_eqb}
 use Rattle.std.proofs.lemmas.Bool.Decides.{nat_tests}
+use Rattle.pageset.specs.Count.{bit, count}
 use Rattle.pageset.specs.Member.{bit_of, bit_at}
+use Rattle.pageset.proofs.Counts.{count_same, count_add, count_most}
 
 -- A word is written, in which bit p % 64 is b and all others are as they were.
 written : (xs : List ℕ) (p y b : ℕ) → p / 64 < length xs → y / 2 ^ (p % 64) % 2 ≡ b
@@ -81,6 +80,7 @@ ones_count (suc k) n h =
     top (suc zero) h = refl
     top (suc (suc a)) h = absurd (omega arith)
 
+-- bits in the first word of a list, and in the others
 first_word : (x : ℕ) (xs : List ℕ) (q : ℕ) → q < 64 → bit_at (x ∷ xs) q ≡ bit_of x q
 unfolding bit_at
 first_word x xs q h =
@@ -93,7 +93,7 @@ next_words x xs q =
     let d : (64 + q) / 64 ≡ suc (q / 64) = omega arith in
     let m : (64 + q) % 64 ≡ q % 64 = omega arith in rw (d, m)
 
--- how many bits of a word are set, and of all words
+-- how many bits of a word are set, and then of all words
 abbrev pub held_in : ℕ → ℕ
 held_in x = count (bit_of x) 64
 
