@@ -1,7 +1,8 @@
 -- A letter as 72 words: kind, attempt, place, page, four noughts, and the 64 words of the page.
-use Rattle.std.specs.Prelude.{ℕ, Bool, cond, ◌&&◌, List, [], ◌∷◌, ◌++◌, take, drop, Some, None, Option, ◌==◌, nat_lt, slice_index}
+use Rattle.std.specs.Prelude.{◌≡◌, ℕ, Result, MatchResult, Bool, cond, ◌&&◌, List, [], ◌∷◌, ◌++◌, take, drop, Some, None, Option, ◌==◌, nat_lt, slice_index}
 use Rattle.letter.specs.declared.Kind.{Kind}
 use Rattle.letter.specs.declared.Kind.TheVariants.{Probe, Page, Commit, Ack, Refuse, Taken}
+use Rattle.letter.specs.declared.NoKind.{NoKind}
 use Rattle.letter.specs.declared.Letter.{Letter}
 
 -- the number of a kind
@@ -17,6 +18,10 @@ number Taken = 6
 abbrev pub kind_of : ℕ → Option Kind
 kind_of n =
     cond (n == 1) (Some Probe) (cond (n == 2) (Some Page) (cond (n == 3) (Some Commit) (cond (n == 4) (Some Ack) (cond (n == 5) (Some Refuse) (cond (n == 6) (Some Taken) None)))))
+
+-- what a number gives: the kind that has it, or none
+abbrev pub Numbers : ℕ → Result Kind NoKind → Type 0
+Numbers n r = MatchResult r (λ kind. kind_of n ≡ Some kind) (λ e. (e.0 ≡ n) × (kind_of n ≡ None))
 
 -- the first eight words of a letter
 abbrev pub head : Kind → (attempt place page : ℕ) → List ℕ

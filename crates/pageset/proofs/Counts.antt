@@ -1,11 +1,11 @@
 -- Laws of counting.
 use Rattle.std.proofs.Common.{◌≡◌, ℕ, zero, suc, ◌+◌, ◌<◌, ◌≤◌, Bool, true, false, ◌&&◌, ltb, leb, sym, refl, ap, ◌∙◌, inl, inr, arith}
-use Rattle.std.proofs.lemmas.Bool.{cases_eq, cases_lt, lt-ltb, le-ltb, le-leb, lt-leb, and_right}
+use Rattle.std.proofs.lemmas.Bool.{cases_eq, lt-ltb, lt-leb}
+use Rattle.std.proofs.lemmas.Bool.Decides.{nat_tests}
 use Rattle.pageset.specs.Count.{bit, count, count_from}
 
 pub bit_most : (b : Bool) → bit b ≤ 1
-bit_most true = omega arith
-bit_most false = omega arith
+bit_most b = grind (arith, nat_tests)
 
 pub count_more : (f : ℕ → Bool) (n : ℕ) → count f (n + 1) ≡ count f n + bit (f n)
 unfolding count
@@ -20,9 +20,7 @@ count_most f (suc n) = omega (arith, count_most f n, bit_most (f n))
 pub count_same : (f g : ℕ → Bool) (n : ℕ) → ((q : ℕ) → q < n → g q ≡ f q) → count g n ≡ count f n
 unfolding count
 count_same f g zero h = refl
-count_same f g (suc n) h =
-    let e = ap bit (h n (omega arith)) in
-    let i = count_same f g n (λ q l. h q (omega arith)) in omega arith
+count_same f g (suc n) h = grind (arith, count_same f g n (λ q l. h q (omega arith)), h n (omega arith))
 
 -- g answers as f does but at k
 pub count_but_one : (f g : ℕ → Bool) (k n : ℕ) → ((q : ℕ) → (q ≡ k → ⊥) → g q ≡ f q) → count g n ≤ count f n + 1
@@ -30,8 +28,8 @@ unfolding count
 count_but_one f g k zero h = omega arith
 count_but_one f g k (suc n) h =
     elim (cases_eq n k) [
-      | inl e ↦ let i = count_same f g n (λ q l. h q (λ s. omega arith)) in omega (arith, bit_most (g n), i)
-      | inr d ↦ let e = ap bit (h n d) in omega (arith, count_but_one f g k n h, e)
+      | inl e ↦ omega (arith, bit_most (g n), count_same f g n (λ q l. h q (λ s. omega arith)))
+      | inr d ↦ omega (arith, count_but_one f g k n h, ap bit (h n d))
     ]
 
 -- g answers as f does but at k, which is below n
@@ -40,29 +38,22 @@ unfolding count
 count_at f g k zero l h = absurd (omega arith)
 count_at f g k (suc n) l h =
     elim (cases_eq n k) [
-      | inl e ↦
-          let i = count_same f g n (λ q m. h q (λ s. omega arith)) in
-          let a : bit (g n) ≡ bit (g k) = ap (λ (q : ℕ). bit (g q)) e in
-          let b : bit (f n) ≡ bit (f k) = ap (λ (q : ℕ). bit (f q)) e in omega arith
-      | inr d ↦ let e = ap bit (h n d) in let i = count_at f g k n (omega arith) h in omega arith
+      | inl e ↦ grind (arith, count_same f g n (λ q m. h q (λ s. omega arith)))
+      | inr d ↦ grind (arith, h n d, count_at f g k n (omega arith) h)
     ]
 
 -- k left, or came
 pub count_cleared : (f g : ℕ → Bool) (k n : ℕ) → k < n → ((q : ℕ) → (q ≡ k → ⊥) → g q ≡ f q) → g k ≡ false → count g n + bit (f k) ≡ count f n
-count_cleared f g k n l h z = let e = ap bit z in omega (arith, count_at f g k n l h)
+count_cleared f g k n l h z = grind (arith, count_at f g k n l h)
 
 pub count_added : (f g : ℕ → Bool) (k n : ℕ) → k < n → ((q : ℕ) → (q ≡ k → ⊥) → g q ≡ f q) → f k ≡ false → g k ≡ true → count g n ≡ count f n + 1
-count_added f g k n l h z o = let e = ap bit z in let d = ap bit o in omega (arith, count_at f g k n l h)
+count_added f g k n l h z o = grind (arith, count_at f g k n l h)
 
 -- f passes whatever g passes
 pub count_mono : (f g : ℕ → Bool) (n : ℕ) → ((q : ℕ) → q < n → g q ≡ true → f q ≡ true) → count g n ≤ count f n
 unfolding count
 count_mono f g zero h = omega arith
-count_mono f g (suc n) h = omega (arith, count_mono f g n (λ q l. h q (omega arith)), bit_mono (g n) (f n) (h n (omega arith)))
-  where
-    bit_mono : (a b : Bool) → (a ≡ true → b ≡ true) → bit a ≤ bit b
-    bit_mono true b k = let e = ap bit (k refl) in omega arith
-    bit_mono false b k = omega arith
+count_mono f g (suc n) h = grind (arith, count_mono f g n (λ q l. h q (omega arith)), h n (omega arith))
 
 pub count_none : (n : ℕ) → count (λ q. false) n ≡ 0
 unfolding count
@@ -89,22 +80,16 @@ unfolding count count_from
 count_split f a zero h = let e : a ≡ 0 = omega arith in rw (e, from_none f 0) refl
 count_split f a (suc n) h =
     elim (cases_eq a (suc n)) [
-      | inl e ↦
-          let z = from_none f a in
-          let s = ap (count f) (sym e) in
-          let t = ap (count (λ q. leb a q && f q)) (sym e) in omega arith
-      | inr d ↦
-          let i = count_split f a n (omega arith) in
-          let b : bit (leb a n && f n) ≡ bit (f n) = rw (le-leb a n (omega arith)) in omega arith
+      | inl e ↦ omega (arith, from_none f a, ap (count f) (sym e), ap (count (λ q. leb a q && f q)) (sym e))
+      | inr d ↦ grind (arith, nat_tests, count_split f a n (omega arith))
     ]
 
 -- the numbers below k
 pub count_below : (k n : ℕ) → k ≤ n → count (λ q. ltb q k) n ≡ k
-unfolding count_from
-count_below k n h =
-    let a = count_same (λ q. true) (λ q. ltb q k) k (λ q l. lt-ltb q k l) in
-    let b = count_same (λ q. false) (λ q. leb k q && ltb q k) n (λ q l. not_both q) in
-    omega (arith, count_split (λ q. ltb q k) k n h, a, b, count_all k, count_none n)
-  where
-    not_both : (q : ℕ) → (leb k q && ltb q k) ≡ false
-    not_both q = elim (cases_lt q k) [ inl l ↦ rw (lt-leb k q l) | inr l ↦ and_right (leb k q) (ltb q k) (le-ltb q k l) ]
+unfolding count
+count_below k zero h = omega arith
+count_below k (suc n) h =
+    elim (cases_eq k (suc n)) [
+      | inl e ↦ count_same (λ q. true) (λ q. ltb q k) (suc n) (λ q l. lt-ltb q k (omega arith)) ∙ count_all (suc n) ∙ sym e
+      | inr d ↦ grind (arith, nat_tests, count_below k n (omega arith))
+    ]

@@ -30,16 +30,15 @@ impl PageSet {
     }
 
     // A page number of 4,096 or more is never in the set.
+    #[tactic(auto, using(crate::proofs::Bits::held, crate::proofs::Bits::past))]
     pub fn has(&self, p: u32) -> bool
         ensures is { result ≡ member self.now p }
         ensures low { T result → p < 4096 }
     {
-        if p >= 4096 {
-            return false;
-        }
-        self.words[(p / 64) as usize] >> (p % 64) & 1 == 1
+        p < 4096 && self.words[(p / 64) as usize] >> (p % 64) & 1 == 1
     }
 
+    #[tactic(auto, using(crate::proofs::Bits::inserted))]
     pub fn insert(&mut self, p: u32)
         requires { p < 4096 }
         ensures { (q : ℕ) → member self.new q ≡ (q == p || member self.old q) }
@@ -47,23 +46,21 @@ impl PageSet {
         self.words[(p / 64) as usize] |= 1 << (p % 64);
     }
 
+    #[tactic(auto, using(crate::proofs::Bits::removed, crate::proofs::Bits::past))]
     pub fn remove(&mut self, p: u32)
         ensures { (q : ℕ) → member self.new q ≡ (not (q == p) && member self.old q) }
     {
-        if self.has(p) {
-            self.words[(p / 64) as usize] ^= 1 << (p % 64);
+        if p < 4096 {
+            self.words[(p / 64) as usize] &= !(1 << (p % 64));
         }
     }
 
     // How many pages are in the set.
+    #[tactic(auto, using(crate::proofs::Bits::ones_count))]
     pub fn len(&self) -> u32
         ensures { result ≡ count (member self.now) 4096 }
     {
-        let mut n = 0;
-        for word in &self.words {
-            n += word.count_ones();
-        }
-        n
+        self.words.iter().map(|word| word.count_ones()).sum()
     }
 }
 
