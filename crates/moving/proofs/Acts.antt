@@ -1,6 +1,6 @@
 -- What a node does by itself: all stays whole, and what holds of the node alone.
 -- Assumes nothing.
-use Rattle.std.proofs.Common.{◌≡◌, ℕ, ◌+◌, ◌%◌, ◌<◌, ◌≤◌, min, Bool, true, false, ltb, List, [], is_err, Result, sym, refl, ap, ◌∙◌, subst, inl, inr, arith, lt-ltb}
+use Rattle.std.proofs.Common.{◌≡◌, ℕ, ◌+◌, ◌%◌, ◌<◌, ◌≤◌, min, Bool, true, false, ltb, List, [], is_err, Result, sym, refl, ap, ◌∙◌, subst, inl, inr, arith, lt-ltb, length}
 use mathlib.Core.Path.{subst⁻¹}
 use Rattle.std.proofs.lemmas.Bool.{cases_lt}
 use Rattle.letter.specs.declared.Kind.TheVariants.{Commit}
@@ -46,11 +46,11 @@ tells_err j z f r e q s (posts d c v g k) p =
     ends_err j 0 f r e (omega arith) s k (fine (λ i x o h. sends_whole g (commit_legit (spelt (bare Commit z.attempt 0)) z q refl refl h.both) h))
 
 -- COMMIT
-pub settle_whole : {i m : ℕ} {x : List (List ℕ)} {o : Node} {w : World} (n : Node) (z : Pause) → z.right.attempt ≡ z.transfer.attempt → z.transfer.window.len ≡ 0 → z.transfer.cursor ≡ w.pages → Whole i m x (on_state (Paused z) n) o w → Whole i m x (settled z.transfer.attempt n) o (kept 2 z.right.attempt w)
+pub settle_whole : {i m : ℕ} {x : List (List ℕ)} {o : Node} {w : World} (n : Node) (z : Pause) → z.right.attempt ≡ z.transfer.attempt → length z.transfer.window.pages ≡ 0 → z.transfer.cursor ≡ w.pages → Whole i m x (on_state (Paused z) n) o w → Whole i m x (settled z.transfer.attempt n) o (kept 2 z.right.attempt w)
 settle_whole {i = i} {m = m} {x = x} {o = o} {w = w} n z e len cur h = subst⁻¹ (λ a. Whole i m x (settled z.transfer.attempt n) o (kept 2 a w)) e (commit_whole z refl len cur h)
 
 -- A NEW ATTEMPT
-pub new_whole : {i m : ℕ} {x : List (List ℕ)} {o : Node} {w : World} (n : Node) (d : Transfer) (t p : ℕ) → n.state ≡ Running (record { wanted = true }) → n.awake ≡ true → n.top < t → t ≤ n.top + 2 → t % 2 ≡ n.me → d.attempt ≡ t → d.window.len ≡ 0 → d.window.base ≡ 0 → p ≡ w.pages → ((q : ℕ) → unsent d q ≡ ltb q p) → Whole i m x n o w → Whole i (m + 2) x (on_top t (Copying d) n) o (kept 1 t w)
+pub new_whole : {i m : ℕ} {x : List (List ℕ)} {o : Node} {w : World} (n : Node) (d : Transfer) (t p : ℕ) → n.state ≡ Running (record { wanted = true }) → n.awake ≡ true → n.top < t → t ≤ n.top + 2 → t % 2 ≡ n.me → d.attempt ≡ t → length d.window.pages ≡ 0 → d.window.base ≡ 0 → p ≡ w.pages → ((q : ℕ) → unsent d q ≡ ltb q p) → Whole i m x n o w → Whole i (m + 2) x (on_top t (Copying d) n) o (kept 1 t w)
 new_whole {i = i} {m = m} {x = x} {o = o} {w = w} n d t p s aw gt le own e len base q un h =
     let top = (h.both.ours.cells.copies aw).1 in
     let most = h.both.ours.cells.most in
@@ -84,7 +84,7 @@ looks_attempt (more bs b y z l k) = k.attempt ∙ looks_attempt l
 
 pub gone_attempt : {pages most : ℕ} {x y : Transfer} → GoneOn pages most x y → y.attempt ≡ x.attempt
 gone_attempt {x = x} g =
-    elim (cases_lt 0 x.window.len) [ inl l ↦ ap (λ (c : Transfer). c.attempt) (g.same l) | inr l ↦ looks_attempt (g.goes (omega arith)).looks ]
+    elim (cases_lt 0 (length x.window.pages)) [ inl l ↦ ap (λ (c : Transfer). c.attempt) (g.same l) | inr l ↦ looks_attempt (g.goes (omega arith)).looks ]
 
 -- STOP
 pub stop_anew : {i m : ℕ} {x : List (List ℕ)} {o : Node} {w : World} (n : Node) (c : Transfer) (z : Pause) → z.transfer ≡ ticked (anew c) → Whole i m x (on_state (Copying c) n) o w → Whole i m x (on_state (Paused z) n) o (stopped w)

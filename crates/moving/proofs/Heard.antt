@@ -1,6 +1,7 @@
 -- What a letter makes of a node: all stays whole, and what holds of the node alone.
 -- Assumes nothing.
 use Rattle.std.proofs.Common.{◌≡◌, ℕ, ◌+◌, ◌-◌, ◌%◌, ◌<◌, ◌≤◌, Bool, true, false, cond, ◌&&◌, eqb, ltb, leb, List, [], ◌∷◌, ◌++◌, length, is_ok, is_err, Some, None, Ok, Err, Result, sym, refl, ap, ◌∙◌, subst, subst₂, inl, inr, arith, ltb-false, ltb-true, eq-eqb, ne_eqb, eqb-true, leb-true}
+use Rattle.std.proofs.lemmas.List.{length-drop, get_or-drop}
 use mathlib.Core.Path.{subst⁻¹}
 use mathlib.Core.List.Memᴰ
 use Rattle.std.proofs.lemmas.Bool.{and_parts}
@@ -10,7 +11,6 @@ use Rattle.letter.specs.declared.Letter.{Letter}
 use Rattle.letter.specs.Words.{number, spelt, letter_of}
 use Rattle.letter.proofs.Spell.{written_read}
 use Rattle.window.specs.Pages.{Sound, dropped}
-use Rattle.window.proofs.Slots.{dropped_sound, dropped_slot}
 use Rattle.moving.specs.declared.Down.{Down}
 use Rattle.moving.specs.declared.Node.{Node}
 use Rattle.moving.specs.declared.state.Transfer.{Transfer}
@@ -287,24 +287,31 @@ put_back n s e = ap (λ s. on_state s n) (sym e)
 abbrev lessened : ℕ → Transfer → Transfer
 lessened s c = record { attempt = c.attempt; window = dropped (s - c.window.base) c.window; unsent = c.unsent; cursor = c.cursor; sent = c.sent; turns = c.turns; prev = c.prev }
 
-acked_is : (c : Transfer) (s : ℕ) → Sound c.window → c.window.base < s → s ≤ c.window.base + c.window.len → Acked c (lessened s c) s
-acked_is c s so lo hi =
-    record { attempt = refl; base = omega arith; len = omega arith; low = omega arith; old = λ k l. dropped_slot (s - c.window.base) k c.window so (omega arith) ∙ ap (slot c) (omega arith); kept = λ q. refl }
+acked_is : (c : Transfer) (s : ℕ) → c.window.base < s → s ≤ c.window.base + length c.window.pages → Acked c (lessened s c) s
+acked_is c s lo hi =
+    record { attempt = refl; base = omega arith; len = omega (arith, length-drop (s - c.window.base) c.window.pages); low = omega arith; old = λ k l. get_or-drop (s - c.window.base) c.window.pages k 0 ∙ ap (slot c) (omega arith); kept = λ q. refl }
 
 abbrev fits_ack : ℕ → ℕ → Transfer → Bool
-fits_ack t s c = (eqb c.attempt t && ltb c.window.base s) && leb s (c.window.base + c.window.len)
+fits_ack t s c = (eqb c.attempt t && ltb c.window.base s) && leb s (c.window.base + length c.window.pages)
 
-ack_test : (t s : ℕ) (c : Transfer) → fits_ack t s c ≡ true → (c.attempt ≡ t) × (c.window.base < s) × (s ≤ c.window.base + c.window.len)
+ack_test : (t s : ℕ) (c : Transfer) → fits_ack t s c ≡ true → (c.attempt ≡ t) × (c.window.base < s) × (s ≤ c.window.base + length c.window.pages)
 ack_test t s c e =
-    let a = and_parts (eqb c.attempt t && ltb c.window.base s) (leb s (c.window.base + c.window.len)) e in
+    let a = and_parts (eqb c.attempt t && ltb c.window.base s) (leb s (c.window.base + length c.window.pages)) e in
     let b = and_parts (eqb c.attempt t) (ltb c.window.base s) a.0 in
-    (eqb-true c.attempt t b.0, ltb-true c.window.base s b.1, leb-true s (c.window.base + c.window.len) a.1)
+    (eqb-true c.attempt t b.0, ltb-true c.window.base s b.1, leb-true s (c.window.base + length c.window.pages) a.1)
 
 acked_sound : (t s : ℕ) (c : Transfer) → Sound c.window → Sound (acked t s c).window
 acked_sound t s c so = go (fits_ack t s c) refl
   where
     go : (b : Bool) → fits_ack t s c ≡ b → Sound (cond b (lessened s c) c).window
-    go true e = let a = ack_test t s c e in dropped_sound (s - c.window.base) c.window so (let p = a.1 in let q = a.2 in omega arith)
+    go true e =
+        let a = ack_test t s c e in
+        let p = a.1 in
+        let q = a.2 in
+        let l = length-drop (s - c.window.base) c.window.pages in
+        let r = so.room in
+        let b = so.places in
+        record { room = omega arith; places = omega arith }
     go false e = so
 
 acked_attempt : (t s : ℕ) (c : Transfer) → (acked t s c).attempt ≡ c.attempt
@@ -322,34 +329,34 @@ acked_windowed t p (Copying c) w = acked_sound t p c w
 acked_windowed t p (Paused z) w = (acked_sound t p z.transfer w.0, w.1 ∙ sym (acked_attempt t p z.transfer))
 acked_windowed t p (Committed z) w = tt
 
-ack_at : {i m : ℕ} {n o : Node} {w : World} (l : Letter) → l.kind ≡ Ack → Windowed n.state → Whole i m (spelt l ∷ []) n o w → Whole i m (spelt l ∷ []) (on_state (acked_in l.attempt l.place n.state) n) o w
-ack_at {i = i} {m = m} {n = n} {o = o} {w = w} l k wi h = go n.state refl wi
+ack_at : {i m : ℕ} {n o : Node} {w : World} (l : Letter) → l.kind ≡ Ack → Whole i m (spelt l ∷ []) n o w → Whole i m (spelt l ∷ []) (on_state (acked_in l.attempt l.place n.state) n) o w
+ack_at {i = i} {m = m} {n = n} {o = o} {w = w} l k h = go n.state refl
   where
     same : (s : State) → n.state ≡ s → Whole i m (spelt l ∷ []) (on_state s n) o w
     same s e = subst (λ s. Whole i m (spelt l ∷ []) (on_state s n) o w) e h
 
-    copying : (c : Transfer) → n.state ≡ Copying c → Sound c.window → (b : Bool) → fits_ack l.attempt l.place c ≡ b → Whole i m (spelt l ∷ []) (on_state (Copying (cond b (lessened l.place c) c)) n) o w
-    copying c e so true q =
+    copying : (c : Transfer) → n.state ≡ Copying c → (b : Bool) → fits_ack l.attempt l.place c ≡ b → Whole i m (spelt l ∷ []) (on_state (Copying (cond b (lessened l.place c) c)) n) o w
+    copying c e true q =
         let a = ack_test l.attempt l.place c q in
-        alone h (ack_copying (spelt l) c (lessened l.place c) (inl (Memᴰ.head refl)) (ap number k) e (sym a.0) (acked_is c l.place so a.1 a.2) h.both)
-    copying c e so false q = same (Copying c) e
+        alone h (ack_copying (spelt l) c (lessened l.place c) (inl (Memᴰ.head refl)) (ap number k) e (sym a.0) (acked_is c l.place a.1 a.2) h.both)
+    copying c e false q = same (Copying c) e
 
-    paused : (z : Pause) → n.state ≡ Paused z → Sound z.transfer.window → (b : Bool) → fits_ack l.attempt l.place z.transfer ≡ b → Whole i m (spelt l ∷ []) (on_state (Paused (record { transfer = cond b (lessened l.place z.transfer) z.transfer; right = z.right; turns = z.turns })) n) o w
-    paused z e so true q =
+    paused : (z : Pause) → n.state ≡ Paused z → (b : Bool) → fits_ack l.attempt l.place z.transfer ≡ b → Whole i m (spelt l ∷ []) (on_state (Paused (record { transfer = cond b (lessened l.place z.transfer) z.transfer; right = z.right; turns = z.turns })) n) o w
+    paused z e true q =
         let a = ack_test l.attempt l.place z.transfer q in
-        alone h (ack_paused (spelt l) z (record { transfer = lessened l.place z.transfer; right = z.right; turns = z.turns }) (inl (Memᴰ.head refl)) (ap number k) e (sym a.0) (acked_is z.transfer l.place so a.1 a.2) refl h.both)
-    paused z e so false q = same (Paused z) e
+        alone h (ack_paused (spelt l) z (record { transfer = lessened l.place z.transfer; right = z.right; turns = z.turns }) (inl (Memᴰ.head refl)) (ap number k) e (sym a.0) (acked_is z.transfer l.place a.1 a.2) refl h.both)
+    paused z e false q = same (Paused z) e
 
-    go : (s : State) → n.state ≡ s → Windowed s → Whole i m (spelt l ∷ []) (on_state (acked_in l.attempt l.place s) n) o w
-    go Away e v = same Away e
-    go (Receiving r) e v = same (Receiving r) e
-    go (Running r) e v = same (Running r) e
-    go (Copying c) e v = copying c e v (fits_ack l.attempt l.place c) refl
-    go (Paused z) e v = paused z e v.0 (fits_ack l.attempt l.place z.transfer) refl
-    go (Committed z) e v = same (Committed z) e
+    go : (s : State) → n.state ≡ s → Whole i m (spelt l ∷ []) (on_state (acked_in l.attempt l.place s) n) o w
+    go Away e = same Away e
+    go (Receiving r) e = same (Receiving r) e
+    go (Running r) e = same (Running r) e
+    go (Copying c) e = copying c e (fits_ack l.attempt l.place c) refl
+    go (Paused z) e = paused z e (fits_ack l.attempt l.place z.transfer) refl
+    go (Committed z) e = same (Committed z) e
 
-pub ack_whole : {i m : ℕ} {n o : Node} {w : World} (l : Letter) (s : State) → s ≡ acked_in l.attempt l.place n.state → l.kind ≡ Ack → Windowed n.state → Whole i m (spelt l ∷ []) n o w → Whole i m (spelt l ∷ []) (on_state s n) o w
-ack_whole {i = i} {m = m} {n = n} {o = o} {w = w} l s e k wi h = subst⁻¹ (λ s. Whole i m (spelt l ∷ []) (on_state s n) o w) e (ack_at l k wi h)
+pub ack_whole : {i m : ℕ} {n o : Node} {w : World} (l : Letter) (s : State) → s ≡ acked_in l.attempt l.place n.state → l.kind ≡ Ack → Whole i m (spelt l ∷ []) n o w → Whole i m (spelt l ∷ []) (on_state s n) o w
+ack_whole {i = i} {m = m} {n = n} {o = o} {w = w} l s e k h = subst⁻¹ (λ s. Whole i m (spelt l ∷ []) (on_state s n) o w) e (ack_at l k h)
 
 pub ack_tidy : (n : Node) (l : Letter) (s : State) → s ≡ acked_in l.attempt l.place n.state → Tidy n → Tidy (on_state s n)
 ack_tidy n l s e t = tidy_to n s (subst⁻¹ Windowed e (acked_windowed l.attempt l.place n.state t.windowed)) t

@@ -1,6 +1,7 @@
 -- How fast a guest is moved: what a turn makes of the counts of a pass, and what a calm round does.
 -- Assumes nothing.
-use Rattle.std.proofs.Common.{◌≡◌, ℕ, ◌+◌, ◌-◌, ◌*◌, ◌%◌, ◌<◌, ◌≤◌, min, Bool, true, false, cond, ◌&&◌, ◌||◌, eqb, ltb, leb, ◌⊎◌, List, Some, None, sym, refl, ap, ◌∙◌, subst, inl, inr, arith}
+use Rattle.std.proofs.Common.{◌≡◌, ℕ, ◌+◌, ◌-◌, ◌*◌, ◌%◌, ◌<◌, ◌≤◌, min, Bool, true, false, cond, ◌&&◌, ◌||◌, eqb, ltb, leb, ◌⊎◌, List, Some, None, sym, refl, ap, ◌∙◌, subst, inl, inr, arith, length}
+use Rattle.std.proofs.lemmas.List.{length_push}
 use mathlib.Core.Path.{subst⁻¹}
 use Rattle.std.proofs.lemmas.Bool.{and_parts, and_cases, cases_eq, cases_lt, cond_both, eq-eqb, ne_eqb, eqb-true, eqb-false, le-leb}
 use Rattle.pageset.specs.Count.{count, count_from}
@@ -37,9 +38,9 @@ pub record Passes (x y : Transfer) : Type 0 where
   pub cursor : x.cursor ≤ y.cursor
   pub sent : x.sent ≤ x.cursor → y.sent ≤ y.cursor
   pub below : ((q : ℕ) → q < x.cursor → unsent x q ≡ false) → (q : ℕ) → q < y.cursor → unsent y q ≡ false
-  pub more : x.window.len ≤ y.window.len
-  pub grows : y.window.len + x.cursor ≤ x.window.len + y.cursor
-  pub window : x.sent ≤ x.cursor → y.cursor ≤ 4096 → y.window.len + x.sent ≡ x.window.len + y.sent
+  pub more : length x.window.pages ≤ length y.window.pages
+  pub grows : length y.window.pages + x.cursor ≤ length x.window.pages + y.cursor
+  pub window : x.sent ≤ x.cursor → y.cursor ≤ 4096 → length y.window.pages + x.sent ≡ length x.window.pages + y.sent
 
 -- nothing is looked at
 passes_self : (x : Transfer) → Passes x x
@@ -51,23 +52,23 @@ passes_look : {x y z : Transfer} {b : Bool} → Passes x y → Looked b y z → 
 passes_look {x = x} {y = y} {z = z} {b = b} p l =
     record { attempt = l.attempt ∙ p.attempt; turns = l.turns ∙ p.turns; prev = l.prev ∙ p.prev; cursor = let a = p.cursor in let c = l.cursor in omega arith; sent = λ h. let a = p.sent h in let c = l.cursor in let d = fewer in omega arith; below = λ h q k. gone (p.below h) q k; more = let a = p.more in let d = longer.0 in omega arith; grows = let a = p.grows in let c = l.cursor in let d = longer.1 in omega arith; window = λ h k. let c = l.cursor in let a = p.sent h in let d = p.window h (omega arith) in let e = alike (omega arith) in omega arith }
   where
-    len : z.window.len ≡ cond (due b y) (y.window.len + 1) y.window.len
-    len = ap (λ w. w.len) l.window ∙ ways (due b y)
+    len : length z.window.pages ≡ cond (due b y) (length y.window.pages + 1) (length y.window.pages)
+    len = ap (λ w. length w.pages) l.window ∙ ways (due b y)
       where
-        ways : (d : Bool) → (cond d (pushed y.cursor y.window) y.window).len ≡ cond d (y.window.len + 1) y.window.len
-        ways true = refl
+        ways : (d : Bool) → length (cond d (pushed y.cursor y.window) y.window).pages ≡ cond d (length y.window.pages + 1) (length y.window.pages)
+        ways true = length_push y.window.pages y.cursor
         ways false = refl
 
     fewer : z.sent ≤ y.sent + 1
     fewer = subst⁻¹ (λ k. k ≤ y.sent + 1) l.sent (cond_both (due b y) (min (y.sent + 1) 4294967295) y.sent (λ k. k ≤ y.sent + 1) (λ e. omega arith) (λ e. omega arith))
 
-    longer : (y.window.len ≤ z.window.len) × (z.window.len ≤ y.window.len + 1)
-    longer = subst⁻¹ (λ k. (y.window.len ≤ k) × (k ≤ y.window.len + 1)) len (cond_both (due b y) (y.window.len + 1) y.window.len (λ k. (y.window.len ≤ k) × (k ≤ y.window.len + 1)) (λ e. omega arith) (λ e. omega arith))
+    longer : (length y.window.pages ≤ length z.window.pages) × (length z.window.pages ≤ length y.window.pages + 1)
+    longer = subst⁻¹ (λ k. (length y.window.pages ≤ k) × (k ≤ length y.window.pages + 1)) len (cond_both (due b y) (length y.window.pages + 1) (length y.window.pages) (λ k. (length y.window.pages ≤ k) × (k ≤ length y.window.pages + 1)) (λ e. omega arith) (λ e. omega arith))
 
-    alike : y.sent ≤ 4096 → z.window.len + y.sent ≡ y.window.len + z.sent
+    alike : y.sent ≤ 4096 → length z.window.pages + y.sent ≡ length y.window.pages + z.sent
     alike h = rw (len, l.sent) (ways (due b y))
       where
-        ways : (d : Bool) → cond d (y.window.len + 1) y.window.len + y.sent ≡ y.window.len + cond d (min (y.sent + 1) 4294967295) y.sent
+        ways : (d : Bool) → cond d (length y.window.pages + 1) (length y.window.pages) + y.sent ≡ length y.window.pages + cond d (min (y.sent + 1) 4294967295) y.sent
         ways true = omega arith
         ways false = refl
 
@@ -84,7 +85,7 @@ looks_passes (more bs b y z l k) = passes_look (looks_passes l) k
 -- What a turn of a pass leaves, and what it adds to.
 pub gone_counts : {pages most : ℕ} {x y : Transfer} → GoneOn pages most x y → Passes x y
 gone_counts {x = x} g =
-    elim (cases_lt 0 x.window.len) [ inl l ↦ subst⁻¹ (λ z. Passes x z) (g.same l) (passes_self x) | inr l ↦ looks_passes (g.goes (omega arith)).looks ]
+    elim (cases_lt 0 (length x.window.pages)) [ inl l ↦ subst⁻¹ (λ z. Passes x z) (g.same l) (passes_self x) | inr l ↦ looks_passes (g.goes (omega arith)).looks ]
 
 -- What holds of a pass holds after one more turn of it.
 pub gone_well : {pages most : ℕ} {x y : Transfer} → GoneOn pages most x y → Within pages x y → PassWell pages x → PassWell pages y
@@ -106,12 +107,12 @@ gone_sent g i few h =
     omega arith
 
 -- If nothing was on its way, and there were asks enough, 248 pages were looked at or 62 were sent, or all were looked at.
-pub gone_progress : {pages most : ℕ} {x y : Transfer} → GoneOn pages most x y → x.window.len ≡ 0 → 251 ≤ most → pages ≤ 4096 → PassWell pages x → y.cursor < pages → x.cursor + 3 * x.sent + 248 ≤ y.cursor + 3 * y.sent
+pub gone_progress : {pages most : ℕ} {x y : Transfer} → GoneOn pages most x y → length x.window.pages ≡ 0 → 251 ≤ most → pages ≤ 4096 → PassWell pages x → y.cursor < pages → x.cursor + 3 * x.sent + 248 ≤ y.cursor + 3 * y.sent
 gone_progress {pages = pages} {most = most} {x = x} {y = y} g z asks few h lt =
     let p = gone_counts g in
     far (p.window h.sent (omega arith)) p.grows (g.goes z).ends
   where
-    far : y.window.len + x.sent ≡ x.window.len + y.sent → y.window.len + x.cursor ≤ x.window.len + y.cursor → (x.cursor + (most - 1) < y.cursor + 2 * y.window.len + 3) ⊎ ((y.window.len ≡ 62) ⊎ (pages ≤ y.cursor)) → x.cursor + 3 * x.sent + 248 ≤ y.cursor + 3 * y.sent
+    far : length y.window.pages + x.sent ≡ length x.window.pages + y.sent → length y.window.pages + x.cursor ≤ length x.window.pages + y.cursor → (x.cursor + (most - 1) < y.cursor + 2 * length y.window.pages + 3) ⊎ ((length y.window.pages ≡ 62) ⊎ (pages ≤ y.cursor)) → x.cursor + 3 * x.sent + 248 ≤ y.cursor + 3 * y.sent
     far a b (inl e) = omega arith
     far a b (inr (inl e)) = omega arith
     far a b (inr (inr e)) = absurd (omega arith)
@@ -142,7 +143,7 @@ counts_then a b =
 -- an acknowledgement changes the window alone
 counts_acked : (t p : ℕ) (x : Transfer) → Counts x (acked t p x)
 counts_acked t p x =
-    cond_both ((eqb x.attempt t && ltb x.window.base p) && leb p (x.window.base + x.window.len)) (record { attempt = x.attempt; window = dropped (p - x.window.base) x.window; unsent = x.unsent; cursor = x.cursor; sent = x.sent; turns = x.turns; prev = x.prev }) x (λ y. Counts x y) (λ e. record { attempt = refl; unsent = refl; cursor = refl; sent = refl; turns = refl; prev = refl }) (λ e. counts_self x)
+    cond_both ((eqb x.attempt t && ltb x.window.base p) && leb p (x.window.base + length x.window.pages)) (record { attempt = x.attempt; window = dropped (p - x.window.base) x.window; unsent = x.unsent; cursor = x.cursor; sent = x.sent; turns = x.turns; prev = x.prev }) x (λ y. Counts x y) (λ e. record { attempt = refl; unsent = refl; cursor = refl; sent = refl; turns = refl; prev = refl }) (λ e. counts_self x)
 
 -- A state is its own kin.
 pub kin_self : (s : State) → Kin s s
@@ -369,7 +370,7 @@ record Onward (pages calm : ℕ) (x y : Transfer) : Type 0 where
   far : 3 ≤ calm → y.cursor < pages → x.cursor + 3 * x.sent + 248 ≤ y.cursor + 3 * y.sent
 
 -- it looks at pages if none is on its way, and there are asks enough
-onward : {pages most : ℕ} {x y : Transfer} (calm : ℕ) → pages ≤ 4096 → PassWell pages x → (3 ≤ calm → x.window.len ≡ 0) → (3 ≤ calm → 251 ≤ most) → GoneOn pages most x y → Within pages x y → Onward pages calm x y
+onward : {pages most : ℕ} {x y : Transfer} (calm : ℕ) → pages ≤ 4096 → PassWell pages x → (3 ≤ calm → length x.window.pages ≡ 0) → (3 ≤ calm → 251 ≤ most) → GoneOn pages most x y → Within pages x y → Onward pages calm x y
 onward calm few h empty asks g i =
     let p = gone_counts g in
     record { turns = p.turns; prev = p.prev; cursor = p.cursor; sum = let a = p.cursor in let b = gone_sent g i few h in omega arith; far = λ c l. gone_progress g (empty c) (asks c) few h l }
@@ -464,15 +465,15 @@ unfolding count
 none_counted f n e = ap (count f) e
 
 -- a pass is over, or it isn't and none is on its way
-is_over : (pages : ℕ) (x : Transfer) → over pages x ≡ true → (x.window.len ≡ 0) × (x.cursor ≡ pages)
+is_over : (pages : ℕ) (x : Transfer) → over pages x ≡ true → (length x.window.pages ≡ 0) × (x.cursor ≡ pages)
 is_over pages x e =
-    let p = and_parts (eqb x.window.len 0) (eqb x.cursor pages) e in
-    (eqb-true x.window.len 0 p.0, eqb-true x.cursor pages p.1)
+    let p = and_parts (eqb (length x.window.pages) 0) (eqb x.cursor pages) e in
+    (eqb-true (length x.window.pages) 0 p.0, eqb-true x.cursor pages p.1)
 
-not_over : (pages : ℕ) (x : Transfer) → over pages x ≡ false → x.cursor ≤ pages → x.window.len ≡ 0 → x.cursor < pages
+not_over : (pages : ℕ) (x : Transfer) → over pages x ≡ false → x.cursor ≤ pages → length x.window.pages ≡ 0 → x.cursor < pages
 not_over pages x e l z =
-    elim (and_cases (eqb x.window.len 0) (eqb x.cursor pages) e) [
-      | inl f ↦ absurd (eqb-false x.window.len 0 f z)
+    elim (and_cases (eqb (length x.window.pages) 0) (eqb x.cursor pages) e) [
+      | inl f ↦ absurd (eqb-false (length x.window.pages) 0 f z)
       | inr f ↦ let d : x.cursor ≡ pages → ⊥ = eqb-false x.cursor pages f in omega arith
     ]
 
@@ -635,7 +636,7 @@ pub record Calm (pages calm still since b most : ℕ) (T U : ℕ → Bool) (s0 s
   pub kin : Kin s0 s
   pub paced : Paced pages s0
   pub less : still ≤ calm
-  pub ready : 3 ≤ calm → (x : Transfer) → moving s ≡ Some x → x.window.len ≡ 0
+  pub ready : 3 ≤ calm → (x : Transfer) → moving s ≡ Some x → length x.window.pages ≡ 0
   pub asks : 3 ≤ calm → 252 ≤ most
   pub run : (r : Run) → s ≡ Running r → calm ≤ 2
   pub again : (x : Commitment) → s ≡ Committed x → calm ≤ 1
@@ -647,7 +648,7 @@ pub record Calm (pages calm still since b most : ℕ) (T U : ℕ → Bool) (s0 s
 -- from Copying
 copying_in_pace : {pages calm still since b most : ℕ} {T U : ℕ → Bool} {s0 : State} {x : Transfer} {n : Node} {w : World} {m : Node} {v : World} → Calm pages calm still since b most T U s0 (Copying x) w m v → CopyOver pages most x n w m v → calm ≤ 40000 → PassWell pages x → CopyPace pages calm T x → still ≡ 0 → InPace pages (calm + 1) since U m.state
 copying_in_pace {pages = pages} {calm = calm} {since = since} {U = U} {x = x} r (played.CopyOver.on f d) small h p z =
-    let a : 3 ≤ calm → x.window.len ≡ 0 = λ k. r.ready k x refl in
+    let a : 3 ≤ calm → length x.window.pages ≡ 0 = λ k. r.ready k x refl in
     subst⁻¹ (λ (k : Node). InPace pages (calm + 1) since U k.state) d.node
     (copy_on x r.writes small (λ k. not_over pages x f h.cursor (a k)) (onward calm r.few (tick_well x h) a (λ k. let i = r.asks k in omega arith) d.goes d.within) d.went p, r.copies d.after (ap (λ (k : Node). k.state) d.node))
 copying_in_pace {pages = pages} {calm = calm} {since = since} {U = U} {x = x} r (played.CopyOver.again f l d) small h p z =
@@ -669,12 +670,12 @@ pausing_in_pace {pages = pages} {calm = calm} {since = since} {U = U} r (played.
     let g = p.since in
     subst⁻¹ (λ (k : Node). InPace pages (calm + 1) since U k.state) e (omega arith, omega arith)
 pausing_in_pace {pages = pages} {calm = calm} {since = since} {U = U} {x = x} r (played.PauseOver.resumes f l d) small h p =
-    let a : 3 ≤ calm → x.transfer.window.len ≡ 0 = λ k. r.ready k x.transfer refl in
+    let a : 3 ≤ calm → length x.transfer.window.pages ≡ 0 = λ k. r.ready k x.transfer refl in
     let c = pause_early x r.few l (λ k. not_over pages x.transfer f h.pass.cursor (a k)) h p in
     subst⁻¹ (λ (k : Node). InPace pages (calm + 1) since U k.state) d.node
     (copy_afresh r.writes c refl refl refl (onward calm r.few (afresh_well pages x.transfer) a (λ k. let i = r.asks k in omega arith) d.goes d.within) d.went, r.copies d.after (ap (λ (k : Node). k.state) d.node))
 pausing_in_pace {pages = pages} {calm = calm} {since = since} {U = U} {x = x} r (played.PauseOver.goes f l d e) small h p =
-    let a : 3 ≤ calm → x.transfer.window.len ≡ 0 = λ k. r.ready k x.transfer refl in
+    let a : 3 ≤ calm → length x.transfer.window.pages ≡ 0 = λ k. r.ready k x.transfer refl in
     let z : Pause = record { transfer = d.after; right = record { attempt = x.right.attempt }; turns = x.turns + 1 } in
     subst⁻¹ (λ (k : Node). InPace pages (calm + 1) since U k.state) d.node
     (pause_goes x z r.writes (r.idle x z refl (ap (λ (k : Node). k.state) d.node)) refl l r.next small (λ k. not_over pages x.transfer f h.pass.cursor (a k)) (onward calm r.few (tick_well x.transfer h.pass) a (λ k. let i = r.asks k in omega arith) d.goes d.within) d.went h p)

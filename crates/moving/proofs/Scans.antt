@@ -1,6 +1,6 @@
 -- What a transfer does: it scans, is acknowledged, begins a pass, stops.
 -- Assumes nothing.
-use Rattle.std.proofs.Common.{◌≡◌, ℕ, ◌+◌, ◌-◌, ◌%◌, ◌<◌, ◌≤◌, Bool, true, false, cond, not, ◌&&◌, eqb, ltb, List, sym, refl, ap, ◌∙◌, subst, ap₂, arith, ltb-false, ltb-true, eqb-true}
+use Rattle.std.proofs.Common.{◌≡◌, ℕ, ◌+◌, ◌-◌, ◌%◌, ◌<◌, ◌≤◌, Bool, true, false, cond, not, ◌&&◌, eqb, ltb, List, sym, refl, ap, ◌∙◌, subst, ap₂, arith, ltb-false, ltb-true, eqb-true, length}
 use borrow.Author.Tests.{eqb-false}
 use Rattle.moving.specs.declared.Node.{Node}
 use Rattle.moving.specs.declared.state.Transfer.{Transfer}
@@ -62,21 +62,21 @@ push_carries m c d p o u k pp room h =
     let at = k.attempt in
     let ba = k.base in
     let le = k.len in
-    record { attempt = at ∙ h.attempt; own = ap (λ z. z % 2) at ∙ h.own; done = let w = h.done in omega arith; took = let w = h.took in omega arith; most = omega arith; ways = λ j w. ways j w (ltb j c.window.len) refl; base = λ w. ba ∙ h.base (omega arith); every = λ w q l v. every (omega arith) q l v (eqb q p) refl; under = λ r f a. under r f (a ∙ at) }
+    record { attempt = at ∙ h.attempt; own = ap (λ z. z % 2) at ∙ h.own; done = let w = h.done in omega arith; took = let w = h.took in omega arith; most = omega arith; ways = λ j w. ways j w (ltb j (length c.window.pages)) refl; base = λ w. ba ∙ h.base (omega arith); every = λ w q l v. every (omega arith) q l v (eqb q p) refl; under = λ r f a. under r f (a ∙ at) }
   where
-    ways : (j : ℕ) → j < d.window.len → (b : Bool) → ltb j c.window.len ≡ b → slot d j < u.pages
-    ways j w true e = let z = ltb-true j c.window.len e in let y = k.old j z in let x = h.ways j z in omega arith
+    ways : (j : ℕ) → j < length d.window.pages → (b : Bool) → ltb j (length c.window.pages) ≡ b → slot d j < u.pages
+    ways j w true e = let z = ltb-true j (length c.window.pages) e in let y = k.old j z in let x = h.ways j z in omega arith
     ways j w false e =
-        let z = ltb-false j c.window.len e in
+        let z = ltb-false j (length c.window.pages) e in
         let le = k.len in
-        let y : j ≡ c.window.len = omega arith in
+        let y : j ≡ length c.window.pages = omega arith in
         let x : slot d j ≡ p = ap (slot d) y ∙ k.last in
         omega arith
 
     every : u.theirs.cell 1 < c.attempt → (q : ℕ) → q < u.pages → unsent d q ≡ false → (b : Bool) → eqb q p ≡ b → Flies d q 0
     every w q l v true e =
         let le = k.len in
-        (c.window.len, omega arith, k.last ∙ sym (eqb-true q p e), omega arith)
+        (length c.window.pages, omega arith, k.last ∙ sym (eqb-true q p e), omega arith)
     every w q l v false e = still_flies q 0 k (h.every w q l (sym (k.kept q (eqb-false q p e)) ∙ v))
 
     under : (r : Reception) → o.state ≡ Receiving r → r.attempt ≡ c.attempt → Under r.next d (on_mine (clear p u.mine) u)
@@ -93,7 +93,7 @@ push_carries m c d p o u k pp room h =
             let hi = (h.under r f a).high in
             let ba = k.base in
             let le = k.len in
-            absurd (nf (c.window.len, omega arith, k.last ∙ sym (eqb-true q p e), omega arith))
+            absurd (nf (length c.window.pages, omega arith, k.last ∙ sym (eqb-true q p e), omega arith))
         same q l v false e t nf = (h.under r f a).same q l (sym (k.kept q (eqb-false q p e)) ∙ v) t (λ z. nf (still_flies q r.next k z))
 
 pub push_bears : (l : List ℕ) (c d : Transfer) (p : ℕ) (m : ℕ) (o : Node) (u : View) → Pushed c d p → Carries m c o u → Bears l c o (flip u) → Bears l d o (flip (on_mine (clear p u.mine) u))

@@ -1,6 +1,6 @@
 -- What a host's own act, the letters of a turn and a whole turn make of its node, if nothing falls. pages: how many there are; most: how often it may ask at most.
 -- Assumes nothing.
-use Rattle.std.specs.Prelude.{◌≡◌, ℕ, ◌+◌, ◌-◌, ◌%◌, ◌<◌, ◌≤◌, min, Bool, true, false, ◌||◌, List, [], ◌∷◌, ◌++◌, nat_lt}
+use Rattle.std.specs.Prelude.{◌≡◌, ℕ, ◌+◌, ◌-◌, ◌%◌, ◌<◌, ◌≤◌, min, Bool, true, false, ◌||◌, List, [], ◌∷◌, ◌++◌, nat_lt, length}
 use Rattle.letter.specs.declared.Letter.{Letter}
 use Rattle.moving.specs.declared.state.Transfer.{Transfer}
 use Rattle.moving.specs.declared.state.Running.{Running as Run}
@@ -43,7 +43,7 @@ pub record New (pages : ℕ) (n : Node) (c : Transfer) : Type 0 where
   pub above : n.top < c.attempt
   pub least : c.attempt ≤ n.top + 2
   pub own : c.attempt % 2 ≡ n.me
-  pub empty : c.window.len ≡ 0
+  pub empty : length c.window.pages ≡ 0
   pub base : c.window.base ≡ 0
   pub all : (p : ℕ) → unsent c p ≡ nat_lt p pages
   pub cursor : c.cursor ≡ 0

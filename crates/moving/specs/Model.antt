@@ -1,6 +1,6 @@
 -- What a node remembers: what each letter, and each thing that it does by itself, makes of it.
 -- Assumes nothing.
-use Rattle.std.specs.Prelude.{◌≡◌, ℕ, ◌+◌, ◌-◌, ◌*◌, ◌%◌, ◌≤◌, min, Bool, true, false, cond, ◌&&◌, replicate, Some, None, Option, ◌==◌, nat_le, nat_lt}
+use Rattle.std.specs.Prelude.{◌≡◌, ℕ, ◌+◌, ◌-◌, ◌*◌, ◌%◌, ◌≤◌, min, Bool, true, false, cond, ◌&&◌, replicate, Some, None, Option, ◌==◌, nat_le, nat_lt, length}
 use Rattle.letter.specs.declared.Kind.{Kind}
 use Rattle.letter.specs.declared.Kind.TheVariants.{Probe, Page, Commit, Ack, Refuse, Taken}
 use Rattle.letter.specs.declared.Letter.{Letter}
@@ -43,12 +43,12 @@ afresh c = recount c 0 0 0 4294967295
 
 -- The pass is over: all pages were looked at, and none is on its way.
 abbrev pub over : ℕ → Transfer → Bool
-over pages c = c.window.len == 0 && c.cursor == pages
+over pages c = length c.window.pages == 0 && c.cursor == pages
 
 -- The other host has put all places of this attempt below s.
 abbrev pub acked : ℕ → ℕ → Transfer → Transfer
 acked t s c =
-    cond ((c.attempt == t && nat_lt c.window.base s) && nat_le s (c.window.base + c.window.len))
+    cond ((c.attempt == t && nat_lt c.window.base s) && nat_le s (c.window.base + length c.window.pages))
     (record { attempt = c.attempt; window = dropped (s - c.window.base) c.window; unsent = c.unsent; cursor = c.cursor; sent = c.sent; turns = c.turns; prev = c.prev }) c
 
 -- A state with another transfer.
@@ -194,8 +194,8 @@ abbrev pub Enough : ℕ → State → Type 0
 Enough most Away = Unit {0}
 Enough most (Receiving x) = Unit {0}
 Enough most (Running x) = 3 ≤ most
-Enough most (Copying x) = 2 + 2 * x.window.len ≤ most
-Enough most (Paused x) = 2 + 2 * x.transfer.window.len ≤ most
+Enough most (Copying x) = 2 + 2 * length x.window.pages ≤ most
+Enough most (Paused x) = 2 + 2 * length x.transfer.window.pages ≤ most
 Enough most (Committed x) = 1 ≤ most
 
 -- A TURN'S BEGINNING AND END

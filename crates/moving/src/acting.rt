@@ -1,5 +1,5 @@
 // What a node does by itself in its turn.
-ghost use Rattle.std.specs.Prelude.{◌≡◌, ℕ, ◌+◌, ◌-◌, ◌*◌, ◌%◌, ◌<◌, ◌≤◌, Bool, true, false, ◌||◌, List, [], is_ok, IfOk, Some, None, OnOk};
+ghost use Rattle.std.specs.Prelude.{◌≡◌, ℕ, ◌+◌, ◌-◌, ◌*◌, ◌%◌, ◌<◌, ◌≤◌, Bool, true, false, ◌||◌, List, [], length, is_ok, IfOk, Some, None, OnOk};
 ghost use Rattle.window.specs.Pages.{Sound};
 ghost use Rattle.letter.specs.Words.{head};
 ghost use Rattle.moving.specs.Used.{Soon, Used, Steady};
@@ -66,7 +66,7 @@ impl Node {
         ensures used { Used 1 (P.world w.old) (is_ok result) (P.world w.new) }
         ensures steady { Steady (P.world w.old) (P.world w.new) }
         ensures is { IfOk result (λ c. self.new ≡ on_top c.attempt self.old.state self.old) }
-        ensures new { IfOk result (λ c. Sound c.window × (c.window.len ≡ 0) × (self.old.top < c.attempt)) }
+        ensures new { IfOk result (λ c. Sound c.window × (length c.window.pages ≡ 0) × (self.old.top < c.attempt)) }
         ensures pass { IfOk result (λ c. New (P.world w.old).pages self.old c) }
         ensures line { OnOk result (Still (P.world w.old) (P.world w.new)) }
         ensures keeps { Keeps 2 [] self.old (P.world w.old) result (λ c. on_state (State.Copying c) self.new) (P.world w.new) }
@@ -108,7 +108,7 @@ impl Node {
         requires awake { self.old.awake ≡ true }
         requires tidy { Tidy (on_state (State.Copying x) self.old) }
         requires ready { Ready 62 [] (on_state (State.Copying x) self.old) (P.world w.old) }
-        requires enough { 2 + 2 * x.window.len ≤ most }
+        requires enough { 2 + 2 * length x.window.pages ≤ most }
         ensures used { Used most (P.world w.old) (is_ok result) (P.world w.new) }
         ensures steady { Steady (P.world w.old) (P.world w.new) }
         ensures tidy { OnOk result (Tidy self.new) }
@@ -145,7 +145,7 @@ impl Node {
         requires awake { self.old.awake ≡ true }
         requires tidy { Tidy (on_state (State.Paused x) self.old) }
         requires ready { Ready 0 [] (on_state (State.Paused x) self.old) (P.world w.old) }
-        requires none { x.transfer.window.len ≡ 0 }
+        requires none { length x.transfer.window.pages ≡ 0 }
         requires all { x.transfer.cursor ≡ (P.world w.old).pages }
         ensures used { Used 2 (P.world w.old) (is_ok result) (P.world w.new) }
         ensures steady { Steady (P.world w.old) (P.world w.new) }
@@ -173,7 +173,7 @@ impl Node {
         requires awake { self.old.awake ≡ true }
         requires tidy { Tidy (on_state (State.Paused x) self.old) }
         requires ready { Ready 62 [] (on_state (State.Paused x) self.old) (P.world w.old) }
-        requires enough { 2 + 2 * x.transfer.window.len ≤ most }
+        requires enough { 2 + 2 * length x.transfer.window.pages ≤ most }
         ensures used { Used most (P.world w.old) (is_ok result) (P.world w.new) }
         ensures steady { Steady (P.world w.old) (P.world w.new) }
         ensures tidy { OnOk result (Tidy self.new) }
@@ -201,7 +201,7 @@ impl Node {
         requires awake { self.old.awake ≡ true }
         requires tidy { Tidy (on_state (State.Paused x) self.old) }
         requires ready { Ready 62 [] (on_state (State.Paused x) self.old) (P.world w.old) }
-        requires enough { 2 + 2 * x.transfer.window.len ≤ most }
+        requires enough { 2 + 2 * length x.transfer.window.pages ≤ most }
         ensures used { Used most (P.world w.old) (is_ok result) (P.world w.new) }
         ensures steady { Steady (P.world w.old) (P.world w.new) }
         ensures tidy { OnOk result (Tidy self.new) }

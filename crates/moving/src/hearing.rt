@@ -3,9 +3,8 @@ ghost use Rattle.std.specs.Prelude.{◌≡◌, ℕ, ◌+◌, ◌-◌, ◌*◌, �
 ghost use Rattle.letter.specs.Words.{spelt};
 ghost use Rattle.moving.specs.Used.{Soon, Used, Steady};
 ghost use Rattle.moving.specs.Calm.{row_here, Still, Hearing, HeardAll};
-ghost use Rattle.moving.specs.Model.{Tidy, Windowed, moving, begins, probed, received, taken, refused, refused_in, acked, acked_in, gone_in, on_state, heeded};
+ghost use Rattle.moving.specs.Model.{Tidy, moving, begins, probed, received, taken, refused, refused_in, acked, acked_in, gone_in, on_state, heeded};
 ghost use Rattle.moving.specs.Acted.{Heard, OneHeard};
-ghost use Rattle.window.specs.Pages.{Sound};
 ghost use Rattle.moving.specs.Invariant.{Ready, Keeps};
 
 use super::right::Right;
@@ -340,7 +339,6 @@ impl Transfer {
 
     // The other host has put all places of the attempt t below s.
     fn acked(self, t: u64, s: u64) -> Transfer
-        requires { Sound self.window }
         ensures { result ≡ acked t s self }
     {
         let base = self.window.base();
@@ -356,7 +354,6 @@ impl Transfer {
 
 impl State {
     fn acked(self, t: u64, s: u64) -> State
-        requires { Windowed self }
         ensures { result ≡ acked_in t s self }
     {
         match self {

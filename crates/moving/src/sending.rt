@@ -1,5 +1,5 @@
 // A transfer: what is sent of the guest, and in which order.
-ghost use Rattle.std.specs.Prelude.{◌≡◌, ℕ, ◌+◌, ◌-◌, ◌*◌, ◌<◌, ◌≤◌, Bool, true, false, ◌||◌, List, [], is_ok, IfOk, Some, None, OnOk, nat_lt};
+ghost use Rattle.std.specs.Prelude.{◌≡◌, ℕ, ◌+◌, ◌-◌, ◌*◌, ◌<◌, ◌≤◌, Bool, true, false, ◌||◌, List, [], length, is_ok, IfOk, Some, None, OnOk, nat_lt};
 ghost use Rattle.pageset.specs.Member.{member};
 ghost use Rattle.window.specs.Pages.{Sound};
 ghost use Rattle.letter.specs.Words.{head};
@@ -24,7 +24,7 @@ impl Transfer {
     pub fn new(attempt: u64, pages: u32) -> Transfer
         requires { pages ≤ 4096 }
         ensures attempt { result.attempt ≡ attempt }
-        ensures window { (Sound result.window) × ((result.window.len ≡ 0) × (result.window.base ≡ 0)) }
+        ensures window { (Sound result.window) × ((length result.window.pages ≡ 0) × (result.window.base ≡ 0)) }
         ensures unsent { (p : ℕ) → unsent result p ≡ nat_lt p pages }
         ensures pass { (result.cursor ≡ 0) × ((result.sent ≡ 0) × ((result.turns ≡ 0) × (result.prev ≡ 4294967295))) }
     {
@@ -85,7 +85,6 @@ impl Transfer {
     // The page at a place of the window is sent, as it is now.
     fn send_page<P: Place>(&self, w: &mut P, place: u64) -> Result<(), Down>
         requires soon { Soon 2 (P.world w.old) }
-        requires sound { Sound self.now.window }
         requires low { self.now.window.base ≤ place }
         requires high { place < end self.now }
         requires inside { slot self.now (place - self.now.window.base) < (P.world w.old).pages }
@@ -110,14 +109,13 @@ impl Transfer {
     // Looks at the page at the cursor, and sends it if it was written since it was last asked for or was never sent: how many were sent.
     fn look<P: Place>(&mut self, w: &mut P) -> Result<u32, Down>
         requires soon { Soon 3 (P.world w.old) }
-        requires sound { Sound self.old.window }
-        requires room { self.old.window.len < 62 }
+        requires room { length self.old.window.pages < 62 }
         requires more { self.old.cursor < (P.world w.old).pages }
         requires below { Below self.old }
         requires ready { Carrying 1 self.old (P.world w.old) }
         ensures used { Used 3 (P.world w.old) (is_ok result) (P.world w.new) }
         ensures steady { Steady (P.world w.old) (P.world w.new) }
-        ensures one { IfOk result (λ k. (k ≤ 1) × ((P.world w.old).left ≤ (P.world w.new).left + 1 + 2 * k) × (self.new.window.len ≡ self.old.window.len + k)) }
+        ensures one { IfOk result (λ k. (k ≤ 1) × ((P.world w.old).left ≤ (P.world w.new).left + 1 + 2 * k) × (length self.new.window.pages ≡ length self.old.window.pages + k)) }
         ensures is { OnOk result (Looked ((me (P.world w.old)).touched self.old.cursor) self.old self.new) }
         ensures line { OnOk result (Passed self.old (P.world w.old) self.new (P.world w.new)) }
         ensures asked { OnOk result (Asked self.old (P.world w.old) → Asked self.new (P.world w.new)) }
@@ -141,8 +139,7 @@ impl Transfer {
     // Goes on with the pass, with so many asks at most.
     fn scan<P: Place>(&mut self, w: &mut P, most: u32) -> Result<(), Down>
         requires soon { Soon most (P.world w.old) }
-        requires sound { Sound self.old.window }
-        requires none { self.old.window.len ≡ 0 }
+        requires none { length self.old.window.pages ≡ 0 }
         requires ready { Carrying 62 self.old (P.world w.old) }
         ensures used { Used most (P.world w.old) (is_ok result) (P.world w.new) }
         ensures steady { Steady (P.world w.old) (P.world w.new) }
@@ -164,10 +161,9 @@ impl Transfer {
 
     // Sends again all that is on its way.
     fn resend<P: Place>(&self, w: &mut P) -> Result<(), Down>
-        requires soon { Soon (2 * self.now.window.len) (P.world w.old) }
-        requires sound { Sound self.now.window }
+        requires soon { Soon (2 * length self.now.window.pages) (P.world w.old) }
         requires ready { Carrying 0 self.now (P.world w.old) }
-        ensures used { Used (2 * self.now.window.len) (P.world w.old) (is_ok result) (P.world w.new) }
+        ensures used { Used (2 * length self.now.window.pages) (P.world w.old) (is_ok result) (P.world w.new) }
         ensures steady { Steady (P.world w.old) (P.world w.new) }
         ensures line { OnOk result (Passed self.now (P.world w.old) self.now (P.world w.new)) }
         ensures asked { OnOk result (AskedTo 0 self.now (P.world w.old) → Asked self.now (P.world w.new)) }
@@ -183,8 +179,7 @@ impl Transfer {
     // Tells the other host of the attempt; then sends again what is on its way or, if nothing is, goes on with the pass.
     pub fn go_on<P: Place>(&mut self, w: &mut P, most: u32) -> Result<(), Down>
         requires soon { Soon most (P.world w.old) }
-        requires enough { 1 + 2 * self.old.window.len ≤ most }
-        requires sound { Sound self.old.window }
+        requires enough { 1 + 2 * length self.old.window.pages ≤ most }
         requires ready { Carrying 62 self.old (P.world w.old) }
         ensures used { Used most (P.world w.old) (is_ok result) (P.world w.new) }
         ensures steady { Steady (P.world w.old) (P.world w.new) }

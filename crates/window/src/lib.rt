@@ -56,7 +56,8 @@ impl Window {
     }
 
     pub fn is_empty(&self) -> bool
-        ensures { result ≡ (length self.now.pages == 0) }
+        ensures is { result ≡ (length self.now.pages == 0) }
+        ensures sound { Sound self.now }
     {
         self.pages.is_empty()
     }

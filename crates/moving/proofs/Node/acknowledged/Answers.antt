@@ -16,5 +16,5 @@ returns g c =
       line = still_self _;
       awake = c.requires.awake;
       tidy = ack_tidy c.args.self.now c.args.l.now c.acked-self.result e c.requires.tidy;
-      keeps = ends_ok 0 (omega arith) (read (then_so 0 (begin (spelt c.args.l.now ∷ []) c.args.self.now (g.P.Place.world c.args.w.now) c.requires.soon.up) (fine (λ i z o h. ack_whole c.args.l.now c.acked-self.result e c.requires.kind c.requires.tidy.windowed h))));
+      keeps = ends_ok 0 (omega arith) (read (then_so 0 (begin (spelt c.args.l.now ∷ []) c.args.self.now (g.P.Place.world c.args.w.now) c.requires.soon.up) (fine (λ i z o h. ack_whole c.args.l.now c.acked-self.result e c.requires.kind h))));
     }

@@ -1,6 +1,4 @@
-use Rattle.std.proofs.Common.{◌≡◌, ◌-◌, [], sym, refl, ap, ◌∙◌, subst, arith, rules}
-use mathlib.Core.Path.{subst⁻¹}
-use Rattle.window.specs.Pages.{Sound}
+use Rattle.std.proofs.Common.{◌≡◌, ◌-◌, [], sym, refl, ap, ◌∙◌, subst, arith, rules, length}
 use Rattle.moving.specs.declared.state.Transfer.{Transfer}
 use Rattle.moving.specs.declared.state.Paused.{Paused as Pause}
 use Rattle.moving.specs.declared.state.State.TheVariants.{Copying, Paused}
@@ -20,11 +18,10 @@ go_on-requires g c =
     let n = c.args.self.now in
     let y = c.tick-y.result in
     let e : y ≡ ticked c.args.x = c.tick-y.ensures in
-    let l = ap (λ (d : Transfer). d.window.len) e in
+    let l = ap (λ (d : Transfer). length d.window.pages) e in
     record {
       soon = search rules;
       enough = omega arith;
-      sound = subst⁻¹ (λ (d : Transfer). Sound d.window) e c.requires.tidy.windowed;
       ready = record { n = on_state (Copying y) n; has = refl; ready = ways.ready c.requires.ready (omega arith) (ticks n c.args.x y e c.requires.soon.up) };
     }
 
@@ -62,11 +59,10 @@ go_on-requires-then-y-gt-LONG_PASS g c =
     let n = c.args.self.now in
     let y = c.tick-y-2.result in
     let e : y ≡ ticked (anew c.args.x) = c.tick-y-2.ensures ∙ ap ticked c.anew.ensures in
-    let l = ap (λ (d : Transfer). d.window.len) e in
+    let l = ap (λ (d : Transfer). length d.window.pages) e in
     record {
       soon = search rules;
       enough = omega arith;
-      sound = subst⁻¹ (λ (d : Transfer). Sound d.window) e c.requires.tidy.windowed;
       ready = record { n = on_state (Copying y) n; has = refl; ready = ways.ready c.requires.ready (omega arith) (ticks_anew n c.args.x y e c.requires.soon.up) };
     }
 
@@ -121,11 +117,10 @@ go_on-requires-2 g c =
     let y = c.tick-y-2.result in
     let z : Pause = record { transfer = y; right = c.in_ok-right.right; turns = 1 } in
     let e : y ≡ ticked (anew c.args.x) = c.tick-y-2.ensures ∙ ap ticked c.anew.ensures in
-    let l = ap (λ (d : Transfer). d.window.len) e in
+    let l = ap (λ (d : Transfer). length d.window.pages) e in
     record {
       soon = search rules;
       enough = omega arith;
-      sound = subst⁻¹ (λ (d : Transfer). Sound d.window) e c.requires.tidy.windowed;
       ready = record { n = on_state (Paused z) n; has = refl; ready = ways.ready c.requires.ready (omega arith) (then_ok 0 (begin [] (on_state (Copying c.args.x) n) (g.P.Place.world c.args.w.now) c.requires.soon.up) c.in_ok-right.ensures.does refl (fine (λ i m o h. stop_anew n c.args.x z e h))) };
     }
 

@@ -1,6 +1,4 @@
-use Rattle.std.proofs.Common.{◌≡◌, ◌-◌, [], refl, ap, ◌∙◌, subst, arith, rules}
-use mathlib.Core.Path.{subst⁻¹}
-use Rattle.window.specs.Pages.{Sound}
+use Rattle.std.proofs.Common.{◌≡◌, ◌-◌, [], refl, ap, ◌∙◌, subst, arith, rules, length}
 use Rattle.moving.specs.declared.state.Transfer.{Transfer}
 use Rattle.moving.specs.declared.state.State.TheVariants.{Copying, Paused}
 use Rattle.moving.specs.Model.{on_state, ticked, afresh}
@@ -34,11 +32,10 @@ go_on-requires g c =
     let x = c.args.x in
     let y = c.tick-y.result in
     let e : y ≡ ticked (afresh x.transfer) = c.tick-y.ensures ∙ ap ticked c.afresh.ensures in
-    let l = ap (λ (d : Transfer). d.window.len) e in
+    let l = ap (λ (d : Transfer). length d.window.pages) e in
     record {
       soon = search rules;
       enough = omega arith;
-      sound = subst⁻¹ (λ (d : Transfer). Sound d.window) e c.requires.tidy.windowed.0;
       ready = record { n = copies_on y n; has = refl; ready = ways.ready c.requires.ready (omega arith) (then_ok 0 (begin [] (on_state (Paused x) n) (g.P.Place.world c.args.w.now) c.requires.soon.up) c.in_ok-resume.ensures.does refl (fine (λ i m o h. (give_up n x y c.requires.tidy.windowed.1 e h).1))) };
     }
 

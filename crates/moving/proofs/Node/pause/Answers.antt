@@ -1,6 +1,4 @@
-use Rattle.std.proofs.Common.{◌≡◌, ◌+◌, [], sym, refl, ap, ◌∙◌, subst, arith, rules}
-use mathlib.Core.Path.{subst⁻¹}
-use Rattle.window.specs.Pages.{Sound}
+use Rattle.std.proofs.Common.{◌≡◌, ◌+◌, [], sym, refl, ap, ◌∙◌, subst, arith, rules, length}
 use Rattle.moving.specs.declared.state.Transfer.{Transfer}
 use Rattle.moving.specs.declared.state.Paused.{Paused as Pause}
 use Rattle.moving.specs.declared.state.State.TheVariants.{Paused}
@@ -33,11 +31,10 @@ go_on-requires g c =
     let y = c.tick-y.result in
     let z : Pause = record { transfer = y; right = x.right; turns = x.turns + 1 } in
     let e : y ≡ ticked x.transfer = c.tick-y.ensures in
-    let l = ap (λ (d : Transfer). d.window.len) e in
+    let l = ap (λ (d : Transfer). length d.window.pages) e in
     record {
       soon = search rules;
       enough = omega arith;
-      sound = subst⁻¹ (λ (d : Transfer). Sound d.window) e c.requires.tidy.windowed.0;
       ready = record { n = on_state (Paused z) n; has = refl; ready = ways.ready c.requires.ready (omega arith) (ticks_paused n x y (x.turns + 1) e c.requires.soon.up) };
     }
 

@@ -1,6 +1,4 @@
-use Rattle.std.proofs.Common.{◌≡◌, ◌-◌, [], sym, refl, ap, ◌∙◌, subst, arith, rules}
-use mathlib.Core.Path.{subst⁻¹}
-use Rattle.window.specs.Pages.{Sound}
+use Rattle.std.proofs.Common.{◌≡◌, ◌-◌, [], sym, refl, ap, ◌∙◌, subst, arith, rules, length}
 use Rattle.moving.specs.declared.Node.{Node}
 use Rattle.moving.specs.declared.state.Transfer.{Transfer}
 use Rattle.moving.specs.declared.state.State.TheVariants.{Running, Copying}
@@ -73,11 +71,10 @@ go_on-requires g c =
     let r = c.in_ok-attempt.ensures in
     let y = c.tick-transfer.result in
     let e : y ≡ ticked c.in_ok-attempt.field-0 = c.tick-transfer.ensures in
-    let l = ap (λ (d : Transfer). d.window.len) e ∙ r.new.1 in
+    let l = ap (λ (d : Transfer). length d.window.pages) e ∙ r.new.1 in
     record {
       soon = search rules;
       enough = omega arith;
-      sound = subst⁻¹ (λ (d : Transfer). Sound d.window) e r.new.0;
       ready = record {
         n = on_state (Copying y) c.attempt.new.self;
         has = refl;

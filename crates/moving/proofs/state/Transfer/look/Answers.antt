@@ -1,4 +1,4 @@
-use Rattle.std.proofs.Common.{◌≡◌, ◌+◌, ◌-◌, true, false, ◌||◌, [], sym, refl, ap, ◌∙◌, subst, subst₂, arith, rules}
+use Rattle.std.proofs.Common.{◌≡◌, ◌+◌, ◌-◌, true, false, ◌||◌, [], sym, refl, ap, ◌∙◌, subst, subst₂, arith, rules, length}
 use Rattle.std.proofs.lemmas.Bool.{cond-true, cond-false}
 use Rattle.pageset.specs.Member.{member}
 use Rattle.moving.specs.declared.state.Transfer.{Transfer}
@@ -50,6 +50,10 @@ returns-then-not-touched-unsent g c =
       prev = refl;
     } in
     let k = c.in_ok-touched.ensures in
+    let r = c.requires.ready in
+    let most = (r.ready.whole.both.ours.copy.carries x r.has).most in
+    let room = r.ready.room in
+    let few = c.requires.room in
     record {
       used = search rules;
       steady = search rules;
@@ -57,7 +61,7 @@ returns-then-not-touched-unsent g c =
       is = l;
       line = passed_look c.requires.more k.used.pages refl k.does k.line.calmly k.line.rests k.line.own (calm_self _) (λ e. (e, refl)) refl l;
       asked = λ a. asked_still _ _ x k.line.calmly k.line.far a;
-      sound = (c.requires.sound, below_more x x.sent x.turns x.prev c.requires.below);
+      sound = (record { room = omega arith; places = omega arith }, below_more x x.sent x.turns x.prev c.requires.below);
       keeps = λ n has. ends_ok 0 (omega arith) (then_ok 0 (begin [] n w c.requires.soon.up) c.in_ok-touched.ensures.does refl (fine (λ i z o h. skip_carrying x x.sent x.turns x.prev has t u h)));
     }
 
@@ -66,29 +70,29 @@ push-place-requires g c =
     let r = c.requires.ready in
     let k = (r.ready.whole.both.ours.copy.carries c.args.self.now r.has).most in
     let q = r.ready.room in
-    record { sound = c.requires.sound; room = c.requires.room; fits = omega arith }
+    record { room = c.requires.room; fits = omega arith }
 
 pub send_page-requires : goal.send_page-requires
 send_page-requires g c =
     let w = g.P.Place.world c.args.w.now in
     let x = c.args.self.now in
     let d : Transfer = record { attempt = x.attempt; window = c.push-place.new.self; unsent = c.remove.new.self; cursor = x.cursor + 1; sent = c.saturating_add-self.result; turns = x.turns; prev = x.prev } in
-    let p : Pushed x d x.cursor = pushed_by x d c.requires.sound c.requires.room c.requires.below refl c.push-place.ensures.is c.remove.ensures in
+    let p : Pushed x d x.cursor = pushed_by x d c.requires.below refl c.push-place.ensures.is c.remove.ensures in
     let place = c.push-place.ensures.place in
     let base = p.base in
     let len = p.len in
-    let k : c.push-place.result - d.window.base ≡ x.window.len = omega arith in
+    let k : c.push-place.result - d.window.base ≡ length x.window.pages = omega arith in
     let at : slot d (c.push-place.result - d.window.base) ≡ x.cursor = ap (slot d) k ∙ p.last in
     let used = c.in_ok-touched.ensures.used in
     let more = c.requires.more in
-    record { soon = search rules; sound = c.push-place.ensures.sound; low = omega arith; high = omega arith; inside = omega arith }
+    record { soon = search rules; low = omega arith; high = omega arith; inside = omega arith }
 
 pub returns-in_err-send_page : goal.returns-in_err-send_page
 returns-in_err-send_page g c =
     let w = g.P.Place.world c.args.w.now in
     let x = c.args.self.now in
     let d : Transfer = record { attempt = x.attempt; window = c.push-place.new.self; unsent = c.remove.new.self; cursor = x.cursor + 1; sent = c.saturating_add-self.result; turns = x.turns; prev = x.prev } in
-    let p : Pushed x d x.cursor = pushed_by x d c.requires.sound c.requires.room c.requires.below refl c.push-place.ensures.is c.remove.ensures in
+    let p : Pushed x d x.cursor = pushed_by x d c.requires.below refl c.push-place.ensures.is c.remove.ensures in
     let e = c.from_residual-in_err-send_page.ensures.0 in
     record {
       used = search rules;
@@ -108,7 +112,7 @@ returns g c =
     let w = g.P.Place.world c.args.w.now in
     let x = c.args.self.now in
     let d : Transfer = record { attempt = x.attempt; window = c.push-place.new.self; unsent = c.remove.new.self; cursor = x.cursor + 1; sent = c.saturating_add-self.result; turns = x.turns; prev = x.prev } in
-    let p : Pushed x d x.cursor = pushed_by x d c.requires.sound c.requires.room c.requires.below refl c.push-place.ensures.is c.remove.ensures in
+    let p : Pushed x d x.cursor = pushed_by x d c.requires.below refl c.push-place.ensures.is c.remove.ensures in
     let some : (c.in_ok-touched.touched || c.has-unsent.result) ≡ true = c.if-not-touched-unsent.false in
     let u : due ((me w).touched x.cursor) x ≡ true = or_true _ _ _ _ c.in_ok-touched.ensures.value c.has-unsent.ensures.is some in
     let l : Looked ((me w).touched x.cursor) x d = record {
@@ -123,17 +127,17 @@ returns g c =
     let k = c.in_ok-touched.ensures in
     let s = c.in_ok-send_page.ensures in
     let base = p.base in
-    let place : c.push-place.result ≡ x.window.base + x.window.len = c.push-place.ensures.place in
+    let place : c.push-place.result ≡ x.window.base + length x.window.pages = c.push-place.ensures.place in
     let at : slot d (c.push-place.result - d.window.base) ≡ x.cursor = ap (slot d) (omega arith) ∙ p.last in
-    let sent : Added (head Page x.attempt (x.window.base + x.window.len) x.cursor) (g.P.Place.world c.touched.new.w) (g.P.Place.world c.send_page.new.w) = subst₂ (λ a b. Added (head Page x.attempt a b) (g.P.Place.world c.touched.new.w) (g.P.Place.world c.send_page.new.w)) place at s.line in
+    let sent : Added (head Page x.attempt (x.window.base + length x.window.pages) x.cursor) (g.P.Place.world c.touched.new.w) (g.P.Place.world c.send_page.new.w) = subst₂ (λ a b. Added (head Page x.attempt a b) (g.P.Place.world c.touched.new.w) (g.P.Place.world c.send_page.new.w)) place at s.line in
     record {
       used = search rules;
       steady = search rules;
       one = search rules;
       is = l;
       line = passed_look c.requires.more k.used.pages s.used.pages k.does k.line.calmly k.line.rests k.line.own sent.calmly sent.rests sent.own l;
-      asked = λ a. asked_sent x d _ _ _ x.cursor c.requires.sound c.requires.room refl c.push-place.ensures.is k.line.calmly k.line.far sent a;
-      sound = (c.push-place.ensures.sound, pushed_below x d c.requires.sound c.requires.room c.requires.below p refl);
+      asked = λ a. asked_sent x d _ _ _ x.cursor c.requires.room refl c.push-place.ensures.is k.line.calmly k.line.far sent a;
+      sound = (c.push-place.ensures.sound, pushed_below x d c.requires.below p refl);
       keeps = λ n has.
           ends_ok 1 (omega arith)
           (subst (λ m. SoFar [] n w ((0 + 1) + 0) [] m (g.P.Place.world c.send_page.new.w)) (carry_twice n d d)

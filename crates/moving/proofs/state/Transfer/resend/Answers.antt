@@ -18,7 +18,7 @@ send_page-requires g c =
     let k : (c.base-base.result + c.loop-i.i) - x.window.base ≡ c.loop-i.i = omega arith in
     let at = ap (slot x) k in
     let way = (r.ready.whole.both.ours.copy.carries x r.has).ways c.loop-i.i (omega arith) in
-    record { soon = search rules; sound = c.requires.sound; low = omega arith; high = omega arith; inside = omega arith }
+    record { soon = search rules; low = omega arith; high = omega arith; inside = omega arith }
 
 pub returns-in_err-send_page : goal.returns-in_err-send_page
 returns-in_err-send_page g c =
@@ -46,7 +46,7 @@ loop-i-preserved g c =
       used = search rules;
       steady = search rules;
       line = passed_then c.loop-i.invariant.line (passed_same x a.calmly a.rests s.used.pages a.own);
-      asked = λ d. asked_next x c.loop-i.i c.requires.sound (omega arith) a (c.loop-i.invariant.asked d);
+      asked = λ d. asked_next x c.loop-i.i c.len-i-end.ensures.sound.room (omega arith) a (c.loop-i.invariant.asked d);
       so = λ n has.
           more 0 (omega arith)
           (subst (λ m. SoFar [] n (g.P.Place.world c.args.w.now) (0 + 0) [] m (g.P.Place.world c.send_page.new.w)) (carry_self n x has)
@@ -61,6 +61,6 @@ returns g c =
       used = search rules;
       steady = search rules;
       line = c.loop-i.invariant.line;
-      asked = λ a. asked_all x c.loop-i.i _ c.requires.sound (search rules) (c.loop-i.invariant.asked a);
+      asked = λ a. asked_all x c.loop-i.i _ (search rules) (c.loop-i.invariant.asked a);
       keeps = λ n has. ends_ok 0 (omega arith) (subst (λ m. SoFar [] n (g.P.Place.world c.args.w.now) 0 [] m (g.P.Place.world c.loop-i.w)) (sym (carry_self n x has)) (c.loop-i.invariant.so n has));
     }

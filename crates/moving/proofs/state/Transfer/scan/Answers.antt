@@ -1,4 +1,4 @@
-use Rattle.std.proofs.Common.{◌≡◌, ◌+◌, ◌<◌, [], sym, ◌∙◌, subst, inl, inr, arith, rules, eqb-true}
+use Rattle.std.proofs.Common.{◌≡◌, ◌+◌, ◌<◌, [], sym, ◌∙◌, subst, inl, inr, arith, rules, eqb-true, length}
 use borrow.Author.Tests.{eqb-false}
 use Rattle.moving.specs.Model.{carrying}
 use Rattle.moving.specs.Scan.{none, more}
@@ -13,19 +13,22 @@ loop-left-init g c =
     let x = c.args.self.now in
     let w = g.P.Place.world c.args.w.now in
     let len = c.requires.none in
+    let r = c.requires.ready in
+    let most = (r.ready.whole.both.ours.copy.carries x r.has).most in
+    let room = r.ready.room in
     record {
       pages = c.pages-pages.ensures;
       few = omega arith;
       used = search rules;
       steady = search rules;
-      sound = c.requires.sound;
+      sound = record { room = omega arith; places = omega arith };
       below = λ k lt. absurd (omega arith);
       looks = record { answers = []; looks = none };
       within = λ h. h;
       line = passed_self x w;
       asked = λ a. a;
       cost = omega arith;
-      so = λ n has. ways.more x.window.len (omega arith) (subst (λ m. SoFar [] n w 0 [] m w) (sym (carry_self n x has)) (begin [] n w c.requires.soon.up));
+      so = λ n has. ways.more (length x.window.pages) (omega arith) (subst (λ m. SoFar [] n w 0 [] m w) (sym (carry_self n x has)) (begin [] n w c.requires.soon.up));
     }
 
 pub look-requires : goal.look-requires
@@ -34,12 +37,11 @@ look-requires g c =
     let x = c.loop-left.self in
     let i = c.loop-left.invariant in
     let p = i.pages in
-    let ne : x.window.len ≡ 62 → ⊥ = eqb-false x.window.len 62 (sym c.is_full.ensures ∙ c.if-not-is_full.true) in
+    let ne : length x.window.pages ≡ 62 → ⊥ = eqb-false (length x.window.pages) 62 (sym c.is_full.ensures ∙ c.if-not-is_full.true) in
     let s = i.sound.room in
-    let room : x.window.len < 62 = omega arith in
+    let room : length x.window.pages < 62 = omega arith in
     record {
       soon = search rules;
-      sound = i.sound;
       room = room;
       more = omega arith;
       below = i.below;
@@ -50,9 +52,9 @@ pub returns-in_err-k : goal.returns-in_err-k
 returns-in_err-k g c =
     let x = c.loop-left.self in
     let i = c.loop-left.invariant in
-    let ne : x.window.len ≡ 62 → ⊥ = eqb-false x.window.len 62 (sym c.is_full.ensures ∙ c.if-not-is_full.true) in
+    let ne : length x.window.pages ≡ 62 → ⊥ = eqb-false (length x.window.pages) 62 (sym c.is_full.ensures ∙ c.if-not-is_full.true) in
     let s = i.sound.room in
-    let room : x.window.len < 62 = omega arith in
+    let room : length x.window.pages < 62 = omega arith in
     let e = c.from_residual.ensures.0 in
     record {
       used = search rules;
@@ -88,8 +90,8 @@ loop-left-preserved g c =
       asked = λ a. l.asked (i.asked a);
       cost = omega arith;
       so = λ n has.
-          ways.more y.window.len (omega arith)
-          (subst (λ m. SoFar [] n w (x.window.len + c.in_ok-k.k) [] m (g.P.Place.world c.look.new.w)) (carry_twice n x y)
+          ways.more (length y.window.pages) (omega arith)
+          (subst (λ m. SoFar [] n w (length x.window.pages + c.in_ok-k.k) [] m (g.P.Place.world c.look.new.w)) (carry_twice n x y)
           (then_call (i.so n has) l.used.fell (l.keeps (carrying x n) (carries_has n.state c.args.self.now x has))));
     }
 
@@ -103,7 +105,7 @@ pub returns-else-not-is_full : goal.returns-else-not-is_full
 returns-else-not-is_full g c =
     let s = c.loop-left.invariant.sound.room in
     let paid = c.loop-left.invariant.cost in
-    record { used = search rules; steady = search rules; within = λ h. search rules; line = c.loop-left.invariant.line; asked = c.loop-left.invariant.asked; is = record { answers = c.loop-left.invariant.looks.answers; looks = c.loop-left.invariant.looks.looks; cost = omega arith; ends = inr (inl (eqb-true c.loop-left.self.window.len 62 (sym c.is_full.ensures ∙ c.if-not-is_full.false))) }; sound = c.loop-left.invariant.sound; keeps = λ n has. ends_ok 62 (omega arith) (c.loop-left.invariant.so n has) }
+    record { used = search rules; steady = search rules; within = λ h. search rules; line = c.loop-left.invariant.line; asked = c.loop-left.invariant.asked; is = record { answers = c.loop-left.invariant.looks.answers; looks = c.loop-left.invariant.looks.looks; cost = omega arith; ends = inr (inl (eqb-true (length c.loop-left.self.window.pages) 62 (sym c.is_full.ensures ∙ c.if-not-is_full.false))) }; sound = c.loop-left.invariant.sound; keeps = λ n has. ends_ok 62 (omega arith) (c.loop-left.invariant.so n has) }
 
 pub returns-after-loop-left : goal.returns-after-loop-left
 returns-after-loop-left g c =

@@ -1,4 +1,4 @@
-use Rattle.std.proofs.Common.{◌≡◌, ◌+◌, ◌-◌, ◌*◌, ◌≤◌, Bool, true, List, [], Some}
+use Rattle.std.proofs.Common.{◌≡◌, ◌+◌, ◌-◌, ◌*◌, ◌≤◌, Bool, true, List, [], Some, length}
 use Rattle.window.specs.Pages.{Sound}
 use Rattle.moving.specs.declared.Node.{Node}
 use Rattle.moving.specs.Model.{moving, carrying}
@@ -21,8 +21,8 @@ invariant-loop-left g l =
       within : (l.initial.self.cursor ≤ l.pages → l.self.cursor ≤ l.pages);
       line : Passed l.initial.self (g.P.Place.world l.initial.w) l.self (g.P.Place.world l.w);
       asked : (Asked l.initial.self (g.P.Place.world l.initial.w) → Asked l.self (g.P.Place.world l.w));
-      cost : l.left + l.self.cursor + 2 * l.self.window.len ≡ l.most + l.initial.self.cursor;
-      so : ((n : Node) → moving n.state ≡ Some l.initial.self → SoFar [] n (g.P.Place.world l.initial.w) l.self.window.len [] (carrying l.self n) (g.P.Place.world l.w));
+      cost : l.left + l.self.cursor + 2 * length l.self.window.pages ≡ l.most + l.initial.self.cursor;
+      so : ((n : Node) → moving n.state ≡ Some l.initial.self → SoFar [] n (g.P.Place.world l.initial.w) (length l.self.window.pages) [] (carrying l.self n) (g.P.Place.world l.w));
     }
 
 abbrev pub decreases-loop-left : goal.decreases-loop-left
