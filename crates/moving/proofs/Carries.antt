@@ -1,6 +1,6 @@
 -- What the parts of a transfer do, for every node that has it.
 -- Assumes nothing.
-use Rattle.std.proofs.Common.{◌≡◌, ℕ, ◌+◌, ◌-◌, ◌<◌, ◌≤◌, Bool, true, false, not, ◌&&◌, ◌||◌, eqb, List, [], is_ok, is_err, Some, Ok, Err, Result, sym, refl, ap, ◌∙◌, subst, subst₂, inl, inr, arith, eq-eqb, ne_eqb}
+use Rattle.std.proofs.Common.{◌≡◌, ℕ, ◌+◌, ◌-◌, ◌<◌, ◌≤◌, Bool, true, false, not, ◌&&◌, ◌||◌, eqb, List, Option, [], is_ok, is_err, Some, Ok, Err, Result, sym, refl, ap, ◌∙◌, subst, subst₂, inl, inr, arith, eq-eqb, ne_eqb}
 use borrow.Author.Tests.{both_ways}
 use Rattle.std.proofs.lemmas.Bool.{cases_lt, cases_eq}
 use Rattle.letter.specs.declared.Kind.TheVariants.{Probe, Page}
@@ -99,7 +99,7 @@ push_carrying {i = i} {m = m} {x = x} {n = n} {o = o} {w = w} c d has k cur lt h
         (push_paused_whole z (record { transfer = d; right = z.right; turns = z.turns }) e (subst (λ b. Pushed b d b.cursor) (sym t) k) (cur ∙ ap (λ (b : Transfer). b.cursor + 1) (sym t)) (subst (λ b. b.cursor < w.pages) (sym t) lt) (subst (λ b. end b < m + 1) (sym t) (omega arith)) (more_whole (omega arith) h))
     go (Committed z) e f = none_some f
 
-pub skip_carrying : {i m : ℕ} {x : List (List ℕ)} {n o : Node} {w : World} (c : Transfer) (s t v : ℕ) → moving n.state ≡ Some c → (me w).touched c.cursor ≡ false → unsent c c.cursor ≡ false → Whole i m x n o w → Whole i m x (carrying (recount c (c.cursor + 1) s t v) n) o (untouched c.cursor w)
+pub skip_carrying : {i m : ℕ} {x : List (List ℕ)} {n o : Node} {w : World} (c : Transfer) (s t : ℕ) (v : Option ℕ) → moving n.state ≡ Some c → (me w).touched c.cursor ≡ false → unsent c c.cursor ≡ false → Whole i m x n o w → Whole i m x (carrying (recount c (c.cursor + 1) s t v) n) o (untouched c.cursor w)
 skip_carrying {i = i} {m = m} {x = x} {n = n} {o = o} {w = w} c s t v has f g h = go n.state refl has
   where
     go : (q : State) → n.state ≡ q → moving q ≡ Some c → Whole i m x (on_state (carries (recount c (c.cursor + 1) s t v) q) n) o (untouched c.cursor w)
@@ -139,7 +139,7 @@ skip_unsent s p u q =
     ]
 
 -- what is below a cursor is below the next
-pub below_more : (c : Transfer) (s t v : ℕ) → Below c → Below (recount c (c.cursor + 1) s t v)
+pub below_more : (c : Transfer) (s t : ℕ) (v : Option ℕ) → Below c → Below (recount c (c.cursor + 1) s t v)
 below_more c s t v b k lt = let z = b k lt in omega arith
 
 pub or_true : (a b : Bool) (x y : Bool) → a ≡ x → b ≡ y → (a || b) ≡ true → (x || y) ≡ true

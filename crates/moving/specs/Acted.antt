@@ -1,6 +1,6 @@
 -- What a host's own act, the letters of a turn and a whole turn make of its node, if nothing falls. pages: how many there are; most: how often it may ask at most.
 -- Assumes nothing.
-use Rattle.std.specs.Prelude.{◌≡◌, ℕ, ◌+◌, ◌-◌, ◌%◌, ◌<◌, ◌≤◌, min, Bool, true, false, ◌||◌, List, [], ◌∷◌, ◌++◌, nat_lt}
+use Rattle.std.specs.Prelude.{◌≡◌, ℕ, ◌+◌, ◌-◌, ◌%◌, ◌<◌, ◌≤◌, min, Bool, true, false, ◌||◌, List, [], ◌∷◌, ◌++◌, None, nat_lt}
 use Rattle.letter.specs.declared.Letter.{Letter}
 use Rattle.moving.specs.declared.state.Transfer.{Transfer}
 use Rattle.moving.specs.declared.state.Running.{Running as Run}
@@ -49,7 +49,7 @@ pub record New (pages : ℕ) (n : Node) (c : Transfer) : Type 0 where
   pub cursor : c.cursor ≡ 0
   pub sent : c.sent ≡ 0
   pub turns : c.turns ≡ 0
-  pub prev : c.prev ≡ 4294967295
+  pub prev : c.prev ≡ None
 
 -- The guest runs here and nobody wants it elsewhere (told: what was answered to that), or an attempt begins.
 pub data RunDid (pages most : ℕ) (told : Bool) (x : Run) (n m : Node) : Type 0 where

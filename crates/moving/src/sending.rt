@@ -6,7 +6,7 @@ ghost use Rattle.letter.specs.Words.{head};
 ghost use Rattle.moving.specs.Used.{Soon, Used, Steady};
 ghost use Rattle.moving.specs.Calm.{Added, Rests, Within, Passed, Asked, AskedTo, Went};
 ghost use Rattle.moving.specs.Hosts.{me};
-ghost use Rattle.moving.specs.Model.{ticked, anew, afresh, over};
+ghost use Rattle.moving.specs.Model.{ticked, new_pass, over};
 ghost use Rattle.moving.specs.Scan.{Below, Looked, Scanned, GoneOn, grows};
 ghost use Rattle.moving.specs.Invariant.{slot, end, unsent, Carrying, Carried};
 
@@ -16,9 +16,6 @@ use letter::{Kind, Letter};
 use pageset::PageSet;
 use window::Window;
 
-// No pass came before.
-pub const NEVER: u32 = 4294967295;
-
 impl Transfer {
     // A new attempt: nothing was sent yet.
     pub fn new(attempt: u64, pages: u32) -> Transfer
@@ -26,7 +23,7 @@ impl Transfer {
         ensures attempt { result.attempt ≡ attempt }
         ensures window { (Sound result.window) × ((result.window.len ≡ 0) × (result.window.base ≡ 0)) }
         ensures unsent { (p : ℕ) → unsent result p ≡ nat_lt p pages }
-        ensures pass { (result.cursor ≡ 0) × ((result.sent ≡ 0) × ((result.turns ≡ 0) × (result.prev ≡ 4294967295))) }
+        ensures pass { (result.cursor ≡ 0) × ((result.sent ≡ 0) × ((result.turns ≡ 0) × (result.prev ≡ None))) }
     {
         Transfer {
             attempt,
@@ -35,7 +32,7 @@ impl Transfer {
             cursor: 0,
             sent: 0,
             turns: 0,
-            prev: NEVER,
+            prev: None,
         }
     }
 
@@ -56,28 +53,15 @@ impl Transfer {
         }
     }
 
-    // A new pass after this one.
-    pub fn anew(self) -> Transfer
-        ensures { result ≡ anew self }
+    // A new pass; prev: how many turns the pass before took, if one came before.
+    pub fn new_pass(self, prev: Option<u32>) -> Transfer
+        ensures { result ≡ new_pass prev self }
     {
         Transfer {
             cursor: 0,
             sent: 0,
             turns: 0,
-            prev: self.turns,
-            ..self
-        }
-    }
-
-    // A new pass that isn't one after another.
-    pub fn afresh(self) -> Transfer
-        ensures { result ≡ afresh self }
-    {
-        Transfer {
-            cursor: 0,
-            sent: 0,
-            turns: 0,
-            prev: NEVER,
+            prev,
             ..self
         }
     }

@@ -6,7 +6,7 @@ use window::Window;
 // An attempt to move the guest away, as far as it has come.
 // window: pages that were sent and aren't acknowledged. unsent: pages that were never sent in this attempt.
 // A pass looks at all pages in their order: cursor is the next; sent, how many it has sent; turns, how many turns it has had.
-// prev: the turns of the pass before, or NEVER.
+// prev: the turns of the pass before, if one came before.
 #[derive(Clone, Copy)]
 pub struct Transfer {
     pub attempt: u64,
@@ -15,7 +15,7 @@ pub struct Transfer {
     pub cursor: u32,
     pub sent: u32,
     pub turns: u32,
-    pub prev: u32,
+    pub prev: Option<u32>,
 }
 
 // The pages of an attempt are put; next: the place of the next one.
