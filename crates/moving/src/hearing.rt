@@ -70,7 +70,7 @@ impl Node {
         ensures tidy { OnOk result (Tidy self.new) }
         ensures keeps { Keeps 0 (spelt l.now ∷ []) self.old (P.world w.old) result (λ _. self.new) (P.world w.new) }
     {
-        let State::Receiving(x) = self.state else {
+        let State::Receiving(x) = &self.state else {
             return Ok(());
         };
         let next = (x.attempt == l.attempt) & (x.next == l.place) & (l.page < w.pages());
@@ -102,16 +102,23 @@ impl Node {
     {
         let t = l.attempt;
         self.asked = Some(t);
-        let State::Receiving(x) = self.state else {
-            return Ok(());
-        };
-        if x.attempt != t {
-            return Ok(());
+        let state = std::mem::replace(&mut self.state, State::Away);
+        match state {
+            State::Receiving(x) => {
+                if x.attempt != t {
+                    self.state = State::Receiving(x);
+                    return Ok(());
+                }
+                Right::received(x).resume(w)?;
+                self.took = t;
+                self.state = State::Running(Running { wanted: false });
+                Ok(())
+            }
+            other => {
+                self.state = other;
+                Ok(())
+            }
         }
-        Right::received(t).resume(w)?;
-        self.took = t;
-        self.state = State::Running(Running { wanted: false });
-        Ok(())
     }
 
     // The attempt that is committed here is refused: the guest goes on here, unless this host has fallen since.
@@ -138,7 +145,7 @@ impl Node {
             self.state = State::Away;
             return Ok(());
         }
-        Right::refused(t).resume(w)?;
+        Right::refused(x).resume(w)?;
         self.took = t;
         self.state = State::Running(Running { wanted: true });
         Ok(())
@@ -234,7 +241,7 @@ impl Node {
         ensures tidy { OnOk result (Tidy self.new) }
         ensures keeps { Keeps 0 (spelt l.now ∷ []) self.old (P.world w.old) result (λ _. self.new) (P.world w.new) }
     {
-        let State::Committed(x) = self.state else {
+        let State::Committed(x) = &self.state else {
             return Ok(());
         };
         if x.attempt == l.attempt {

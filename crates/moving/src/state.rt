@@ -19,7 +19,8 @@ pub struct Transfer {
 }
 
 // The pages of an attempt are put; next: the place of the next one.
-#[derive(Clone, Copy)]
+// It can't be copied, so that a right comes from it once.
+#[derive(Drop)]
 pub struct Receiving {
     pub attempt: u64,
     pub next: u64,
@@ -40,7 +41,8 @@ pub struct Paused {
 }
 
 // The attempt is committed; mine: this host hasn't fallen since, so that its pages are the guest's memory still.
-#[derive(Clone, Copy)]
+// It can't be copied either.
+#[derive(Drop)]
 pub struct Committed {
     pub attempt: u64,
     pub mine: bool,
