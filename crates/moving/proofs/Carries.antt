@@ -122,13 +122,12 @@ pushed_below c d s room below p cur k lt =
       | inr b ↦ let q : k ≡ c.window.len = omega arith in let y : slot d k ≡ c.cursor = ap (slot d) q ∙ p.last in omega arith
     ]
 
-pub or_false_left : (a b : Bool) → (a || b) ≡ false → a ≡ false
-or_false_left true b e = e
-or_false_left false b e = refl
+pub or_left : {a : Bool} (b : Bool) → a ≡ true → (a || b) ≡ true
+or_left b e = rw e refl
 
-pub or_false_right : (a b : Bool) → (a || b) ≡ false → b ≡ false
-or_false_right true b e = absurd (both_ways true e refl)
-or_false_right false b e = e
+pub or_right : {b : Bool} (a : Bool) → b ≡ true → (a || b) ≡ true
+or_right true e = refl
+or_right false e = e
 
 -- a page that isn't in the set can be taken out of it
 pub skip_unsent : (s : PageSet) (p : ℕ) → member s p ≡ false → (q : ℕ) → member s q ≡ (not (eqb q p) && member s q)
@@ -146,7 +145,7 @@ pub or_true : (a b : Bool) (x y : Bool) → a ≡ x → b ≡ y → (a || b) ≡
 or_true a b x y e f h = subst₂ (λ p q. (p || q) ≡ true) e f h
 
 -- a fall lets numbers grow by one at most
-pub grown : {c d : Transfer} {w v : World} (r : Result ℕ Down) → is_err r ≡ true → Carried 1 c w r d v → Carried (grows r) c w r d v
+pub grown : {c d : Transfer} {w v : World} (r : Result Bool Down) → is_err r ≡ true → Carried 1 c w r d v → Carried (grows r) c w r d v
 grown (Ok x) e h = absurd (both_ways false refl e)
 grown (Err x) e h = h
 

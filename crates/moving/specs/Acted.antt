@@ -86,10 +86,10 @@ pub record Heard (pages : ℕ) (n m : Node) : Type 0 where
   pub letters : List Letter
   pub hears : Hears pages n letters m
 
--- k letters have come, 1 at most: nothing has changed, or it was l.
-pub data OneHeard (pages k : ℕ) (n m : Node) : Type 0 where
-  nothing : m ≡ n → OneHeard pages k n m
-  letter : (l : Letter) → k ≡ 1 → m ≡ heeded pages l n → OneHeard pages k n m
+-- b: a letter has come. Nothing has changed, or it was l.
+pub data OneHeard (pages : ℕ) (b : Bool) (n m : Node) : Type 0 where
+  nothing : m ≡ n → OneHeard pages b n m
+  letter : (l : Letter) → b ≡ true → m ≡ heeded pages l n → OneHeard pages b n m
 
 -- A whole turn in which nothing falls: it wakes, hears letters, acts with 124 asks or more, and has answered who asked.
 pub record Turned (w : World) (n m : Node) : Type 0 where

@@ -1,6 +1,7 @@
 // A transfer: what is sent of the guest, and in which order.
 ghost use Rattle.std.specs.Prelude.{◌≡◌, ℕ, ◌+◌, ◌-◌, ◌*◌, ◌<◌, ◌≤◌, Bool, true, false, ◌||◌, List, [], is_ok, IfOk, Some, None, OnOk, nat_lt};
 ghost use Rattle.pageset.specs.Member.{member};
+ghost use Rattle.pageset.specs.Count.{bit};
 ghost use Rattle.window.specs.Pages.{Sound};
 ghost use Rattle.letter.specs.Words.{head};
 ghost use Rattle.moving.specs.Used.{Soon, Used, Steady};
@@ -91,8 +92,8 @@ impl Transfer {
         asks::send(w, &l)
     }
 
-    // Looks at the page at the cursor, and sends it if it was written since it was last asked for or was never sent: how many were sent.
-    fn look<P: Place>(&mut self, w: &mut P) -> Result<u32, Down>
+    // Looks at the page at the cursor, and sends it if it was written since it was last asked for or was never sent: whether it was sent.
+    fn look<P: Place>(&mut self, w: &mut P) -> Result<bool, Down>
         requires soon { Soon 3 (P.world w.old) }
         requires sound { Sound self.old.window }
         requires room { self.old.window.len < 62 }
@@ -101,7 +102,7 @@ impl Transfer {
         requires ready { Carrying 1 self.old (P.world w.old) }
         ensures used { Used 3 (P.world w.old) (is_ok result) (P.world w.new) }
         ensures steady { Steady (P.world w.old) (P.world w.new) }
-        ensures one { IfOk result (λ k. (k ≤ 1) × ((P.world w.old).left ≤ (P.world w.new).left + 1 + 2 * k) × (self.new.window.len ≡ self.old.window.len + k)) }
+        ensures one { IfOk result (λ b. ((P.world w.old).left ≤ (P.world w.new).left + 1 + 2 * bit b) × (self.new.window.len ≡ self.old.window.len + bit b)) }
         ensures is { OnOk result (Looked ((me (P.world w.old)).touched self.old.cursor) self.old self.new) }
         ensures line { OnOk result (Passed self.old (P.world w.old) self.new (P.world w.new)) }
         ensures asked { OnOk result (Asked self.old (P.world w.old) → Asked self.new (P.world w.new)) }
@@ -112,14 +113,14 @@ impl Transfer {
         let touched = asks::touched(w, p)?;
         let unsent = self.unsent.has(p);
         self.cursor = p + 1;
-        if !(touched | unsent) {
-            return Ok(0);
+        if !touched && !unsent {
+            return Ok(false);
         }
         self.unsent.remove(p);
         let place = self.window.push(p);
         self.sent = self.sent.saturating_add(1);
         self.send_page(w, place)?;
-        Ok(1)
+        Ok(true)
     }
 
     // Goes on with the pass, with so many asks at most.
@@ -140,8 +141,8 @@ impl Transfer {
         let pages = w.pages();
         let mut left = most;
         while left >= 3 && !self.window.is_full() && self.cursor < pages {
-            let k = self.look(w)?;
-            left -= 1 + 2 * k;
+            let sent = self.look(w)?;
+            left -= 1 + 2 * u32::from(sent);
         }
         Ok(())
     }
@@ -158,8 +159,8 @@ impl Transfer {
         ensures keeps { Carried 0 self.now (P.world w.old) result self.now (P.world w.new) }
     {
         let base = self.window.base();
-        for i in 0..self.window.len() {
-            self.send_page(w, base + i)?;
+        for place in base..base + self.window.len() {
+            self.send_page(w, place)?;
         }
         Ok(())
     }
