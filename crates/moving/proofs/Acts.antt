@@ -1,6 +1,6 @@
 -- What a node does by itself: all stays whole, and what holds of the node alone.
 -- Assumes nothing.
-use Rattle.std.proofs.Common.{◌≡◌, ℕ, ◌+◌, ◌%◌, ◌<◌, ◌≤◌, min, Bool, true, false, ltb, List, [], is_err, Result, sym, refl, ap, ◌∙◌, subst, inl, inr, arith, lt-ltb, length}
+use Rattle.std.proofs.Common.{◌≡◌, ℕ, ◌+◌, ◌%◌, ◌<◌, ◌≤◌, min, Bool, true, false, ltb, List, Option, Some, None, [], is_err, Result, sym, refl, ap, ◌∙◌, subst, inl, inr, arith, lt-ltb}
 use mathlib.Core.Path.{subst⁻¹}
 use Rattle.std.proofs.lemmas.Bool.{cases_lt}
 use Rattle.letter.specs.declared.Kind.TheVariants.{Commit}
@@ -59,7 +59,7 @@ new_whole {i = i} {m = m} {x = x} {o = o} {w = w} n d t p s aw gt le own e len b
 
 -- GOING ON
 -- only counts change
-pub then_recounts : {x : List (List ℕ)} {b : Node} {w v : World} {j : ℕ} (n : Node) (c d : Transfer) (k s t p : ℕ) → d ≡ recount c k s t p → SoFar x b w j [] (on_state (Copying c) n) v → SoFar x b w (j + 0) [] (on_state (Copying d) n) v
+pub then_recounts : {x : List (List ℕ)} {b : Node} {w v : World} {j : ℕ} (n : Node) (c d : Transfer) (k s t : ℕ) (p : Option ℕ) → d ≡ recount c k s t p → SoFar x b w j [] (on_state (Copying c) n) v → SoFar x b w (j + 0) [] (on_state (Copying d) n) v
 then_recounts {x = x} {b = b} {w = w} {v = v} {j = j} n c d k s t p e q =
     subst⁻¹ (λ d. SoFar x b w (j + 0) [] (on_state (Copying d) n) v) e (then_so 0 q (fine (λ i z o h. alone h (recount_copying c k s t p refl h.both))))
 
@@ -70,7 +70,7 @@ pub ticks : {w : World} (n : Node) (c d : Transfer) → d ≡ ticked c → w.fel
 ticks {w = w} n c d e up = then_ticks n c d e (begin [] (on_state (Copying c) n) w up)
 
 pub ticks_anew : {w : World} (n : Node) (c d : Transfer) → d ≡ ticked (anew c) → w.fell ≡ false → SoFar [] (on_state (Copying c) n) w (0 + 0) [] (on_state (Copying d) n) w
-ticks_anew {w = w} n c d e up = then_recounts n c d 0 0 (min (0 + 1) 4294967295) c.turns e (begin [] (on_state (Copying c) n) w up)
+ticks_anew {w = w} n c d e up = then_recounts n c d 0 0 (min (0 + 1) 4294967295) (Some c.turns) e (begin [] (on_state (Copying c) n) w up)
 
 pub ticks_paused : {w : World} (n : Node) (z : Pause) (d : Transfer) (k : ℕ) → d ≡ ticked z.transfer → w.fell ≡ false → SoFar [] (on_state (Paused z) n) w (0 + 0) [] (on_state (Paused (record { transfer = d; right = z.right; turns = k })) n) w
 ticks_paused {w = w} n z d k e up =
@@ -96,7 +96,7 @@ copies_on d n = record { me = n.me; awake = n.awake; took = d.attempt; top = n.t
 
 pub give_up : {i m : ℕ} {x : List (List ℕ)} {o : Node} {w : World} (n : Node) (z : Pause) (d : Transfer) → z.right.attempt ≡ z.transfer.attempt → d ≡ ticked (afresh z.transfer) → Whole i m x (on_state (Paused z) n) o w → MayResume w × Whole i m x (copies_on d n) o (resumed z.right.attempt w)
 give_up {i = i} {m = m} {x = x} {o = o} {w = w} n z d e f h =
-    let q = again_whole z 0 0 (min (0 + 1) 4294967295) 4294967295 refl h in
+    let q = again_whole z 0 0 (min (0 + 1) 4294967295) None refl h in
     (q.0, subst⁻¹ (λ d. Whole i m x (copies_on d n) o (resumed z.right.attempt w)) f (subst⁻¹ (λ a. Whole i m x (copies_on (ticked (afresh z.transfer)) n) o (resumed a w)) e q.1))
 
 -- RUN

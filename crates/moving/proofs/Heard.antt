@@ -435,7 +435,7 @@ still_none pages l n h = go l.kind
     go Taken = takes l.attempt n.state h
 
 -- LETTERS IN A ROW: one more, or none
-pub hear_more : {pages p k : ℕ} {n x y : Node} → p ≡ pages → Heard pages n x → OneHeard p k x y → Heard pages n y
+pub hear_more : {pages p : ℕ} {b : Bool} {n x y : Node} → p ≡ pages → Heard pages n x → OneHeard p b x y → Heard pages n y
 hear_more {pages = pages} {n = n} e h (nothing q) = subst⁻¹ (λ (z : Node). Heard pages n z) q h
 hear_more {pages = pages} {n = n} {x = x} e h (letter l o q) =
     subst⁻¹ (λ (z : Node). Heard pages n z) (q ∙ ap (λ p. heeded p l x) e) (record { letters = h.letters ++ l ∷ []; hears = more h.letters l x h.hears })

@@ -1,6 +1,6 @@
 -- What is done keeps the world whole: one lemma for each kind of step.
 -- Assumes nothing.
-use Rattle.std.proofs.Common.{◌≡◌, ℕ, ◌+◌, ◌-◌, ◌%◌, ◌<◌, ◌≤◌, Bool, true, false, cond, not, ◌&&◌, ◌||◌, T, eqb, ltb, ◌⊎◌, List, [], ◌∷◌, ◌++◌, length, sym, refl, ap, ◌∙◌, subst, inl, inr, arith, eq-eqb, ne_eqb, eqb-true}
+use Rattle.std.proofs.Common.{◌≡◌, ℕ, ◌+◌, ◌-◌, ◌%◌, ◌<◌, ◌≤◌, Bool, true, false, cond, not, ◌&&◌, ◌||◌, T, eqb, ltb, ◌⊎◌, List, Option, [], ◌∷◌, ◌++◌, length, sym, refl, ap, ◌∙◌, subst, inl, inr, arith, eq-eqb, ne_eqb, eqb-true}
 use mathlib.Core.Path.{subst⁻¹, subst₃}
 use mathlib.Core.List.Memᴰ
 use mathlib.Core.List.{Memᴰ}
@@ -168,7 +168,7 @@ take_whole {w = w} l r i kd e at h = (may_resume w (may_take l r i kd e at h.bot
 pub refused_whole : {i m : ℕ} {x : List (List ℕ)} {n o : Node} {w : World} (l : List ℕ) (z : Commitment) → In l x (me w) → kind_of l ≡ 5 → n.state ≡ Committed z → z.mine ≡ true → attempt_of l ≡ z.attempt → n.awake ≡ true → Whole i m x n o w → MayResume w × Whole i m x (runs_again z.attempt true n) o (resumed z.attempt w)
 refused_whole {w = w} l z i kd e mi at aw h = (may_resume w (may_go (seen w) (refused_stands l z i kd e mi at h.both)), went_whole z.attempt h (refused l z i kd e mi at aw h.both))
 
-pub again_whole : {i m : ℕ} {x : List (List ℕ)} {n o : Node} {w : World} (z : Pause) (k s t v : ℕ) → n.state ≡ Paused z → Whole i m x n o w → MayResume w × Whole i m x (record { me = n.me; awake = n.awake; took = z.transfer.attempt; top = n.top; committed = n.committed; asked = n.asked; state = Copying (recount z.transfer k s t v) }) o (resumed z.transfer.attempt w)
+pub again_whole : {i m : ℕ} {x : List (List ℕ)} {n o : Node} {w : World} (z : Pause) (k s t : ℕ) (v : Option ℕ) → n.state ≡ Paused z → Whole i m x n o w → MayResume w × Whole i m x (record { me = n.me; awake = n.awake; took = z.transfer.attempt; top = n.top; committed = n.committed; asked = n.asked; state = Copying (recount z.transfer k s t v) }) o (resumed z.transfer.attempt w)
 again_whole {w = w} z k s t v e h = (may_resume w (may_go (seen w) (h.both.ours.guest.paused z e)), went_whole z.transfer.attempt h (go_again z k s t v e h.both))
 
 -- STOP
@@ -333,5 +333,5 @@ step_err_own h e (falls_before v u f) p k = fell_whole f (counted_whole k)
 step_err_own h e (falls_after v u f) p k = fell_own h e f k
 step_err_own {w = w} h e (down t) p k = absurd (both_ways w.fell p (is_true w.fell t))
 
-pub skip_copying_whole : {i m : ℕ} {x : List (List ℕ)} {n o : Node} {w : World} (c : Transfer) (p k s t v : ℕ) → n.state ≡ Copying c → (me w).touched p ≡ false → Whole i m x n o w → Whole i m x (on_state (Copying (recount c k s t v)) n) o (untouched p w)
+pub skip_copying_whole : {i m : ℕ} {x : List (List ℕ)} {n o : Node} {w : World} (c : Transfer) (p k s t : ℕ) (v : Option ℕ) → n.state ≡ Copying c → (me w).touched p ≡ false → Whole i m x n o w → Whole i m x (on_state (Copying (recount c k s t v)) n) o (untouched p w)
 skip_copying_whole {w = w} c p k s t v e f h = own_whole (clear p (me w)) h (skip_copying c p k s t v e f h.both)

@@ -26,20 +26,29 @@ moving (Paused x) = Some x.transfer
 moving (Committed x) = None
 
 -- The same with other counts.
-abbrev pub recount : Transfer → (cursor sent turns prev : ℕ) → Transfer
+abbrev pub recount : Transfer → (cursor sent turns : ℕ) → Option ℕ → Transfer
 recount c k s t v = record { attempt = c.attempt; window = c.window; unsent = c.unsent; cursor = k; sent = s; turns = t; prev = v }
 
 -- A turn more of the pass, counted up to 2^32 - 1.
 abbrev pub ticked : Transfer → Transfer
 ticked c = recount c c.cursor c.sent (min (c.turns + 1) 4294967295) c.prev
 
--- A new pass.
-abbrev pub anew : Transfer → Transfer
-anew c = recount c 0 0 0 c.turns
+-- A new pass; v: how many turns the pass before took, if one came before.
+abbrev pub new_pass : Option ℕ → Transfer → Transfer
+new_pass v c = recount c 0 0 0 v
 
--- A new pass that doesn't count as one after another.
+-- One after this pass.
+abbrev pub anew : Transfer → Transfer
+anew c = new_pass (Some c.turns) c
+
+-- One that doesn't count as one after another.
 abbrev pub afresh : Transfer → Transfer
-afresh c = recount c 0 0 0 4294967295
+afresh c = new_pass None c
+
+-- The pass before took few turns, so that one may begin with a stop; none does if no pass came before.
+abbrev pub short_before : Option ℕ → Bool
+short_before None = false
+short_before (Some t) = nat_le t 37
 
 -- The pass is over: all pages were looked at, and none is on its way.
 abbrev pub over : ℕ → Transfer → Bool

@@ -3,6 +3,7 @@
 use Rattle.std.specs.Prelude.{◌≡◌, ℕ, ◌+◌, ◌-◌, ◌*◌, ◌<◌, ◌≤◌, min, Bool, cond, not, ◌&&◌, ◌||◌, ◌⊎◌, List, [], ◌∷◌, ◌++◌, Ok, Err, Result, ◌==◌, length}
 use Rattle.window.specs.Pages.{pushed}
 use Rattle.pageset.specs.Member.{member}
+use Rattle.pageset.specs.Count.{bit}
 use Rattle.moving.specs.declared.Down.{Down}
 use Rattle.moving.specs.declared.state.Transfer.{Transfer}
 use Rattle.moving.specs.Invariant.{slot}
@@ -25,9 +26,9 @@ pub record Looked (b : Bool) (x y : Transfer) : Type 0 where
   pub turns : y.turns ≡ x.turns
   pub prev : y.prev ≡ x.prev
 
--- By how much numbers grow at a look: by as many as were sent, and where the host fell by one at most.
-abbrev pub grows : Result ℕ Down → ℕ
-grows (Ok k) = k
+-- By how much numbers grow at a look: by one if the page was sent, and where the host fell by one at most.
+abbrev pub grows : Result Bool Down → ℕ
+grows (Ok b) = bit b
 grows (Err x) = 1
 
 -- Looks at one page after the other, with the answers bs.

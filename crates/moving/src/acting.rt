@@ -6,7 +6,7 @@ ghost use Rattle.moving.specs.Used.{Soon, Used, Steady};
 ghost use Rattle.moving.specs.Calm.{Still, Added};
 ghost use Rattle.moving.specs.Over.{CopiesOver, RunOver, CopyOver, PauseOver, ActedOver};
 ghost use Rattle.moving.specs.Hosts.{me};
-ghost use Rattle.moving.specs.Model.{Tidy, on_state, on_top, Enough, ticked, afresh};
+ghost use Rattle.moving.specs.Model.{Tidy, on_state, on_top, Enough, ticked, afresh, short_before};
 ghost use Rattle.moving.specs.Acted.{Copies, New, RunDid, CopyDid, PauseDid, ActedIn, commits, said_again, took_for};
 ghost use Rattle.moving.specs.Invariant.{Ready, Keeps};
 
@@ -31,6 +31,18 @@ fn next_attempt(top: u64, me: u64) -> u64
         return t;
     }
     t + 1
+}
+
+impl Transfer {
+    // A pass came before this one, and took few turns: then this one may begin with a stop.
+    fn follows_short_pass(&self) -> bool
+        ensures { result ≡ short_before self.now.prev }
+    {
+        match self.prev {
+            Some(turns) => turns <= LONG_PASS,
+            None => false,
+        }
+    }
 }
 
 impl Node {
@@ -123,8 +135,8 @@ impl Node {
             self.state = State::Copying(y);
             return Ok(());
         }
-        let mut y = x.anew().tick();
-        if y.prev > LONG_PASS {
+        let mut y = x.new_pass(Some(x.turns)).tick();
+        if !y.follows_short_pass() {
             y.go_on(w, most)?;
             self.state = State::Copying(y);
             return Ok(());
@@ -187,7 +199,7 @@ impl Node {
             right,
             turns: _,
         } = x;
-        let mut y = transfer.afresh().tick();
+        let mut y = transfer.new_pass(None).tick();
         right.resume(w)?;
         self.took = y.attempt;
         y.go_on(w, most - 1)?;

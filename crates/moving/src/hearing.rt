@@ -1,6 +1,7 @@
 // What each letter makes of a node.
 ghost use Rattle.std.specs.Prelude.{◌≡◌, ℕ, ◌+◌, ◌-◌, ◌*◌, ◌<◌, ◌≤◌, Bool, true, false, List, [], ◌∷◌, length, is_ok, IfOk, Some, None, OnOk};
 ghost use Rattle.letter.specs.Words.{spelt};
+ghost use Rattle.pageset.specs.Count.{bit};
 ghost use Rattle.moving.specs.Used.{Soon, Used, Steady};
 ghost use Rattle.moving.specs.Calm.{row_here, Still, Hearing, HeardAll};
 ghost use Rattle.moving.specs.Model.{Tidy, moving, begins, probed, received, taken, refused, refused_in, acked, acked_in, gone_in, on_state, heeded};
@@ -69,7 +70,7 @@ impl Node {
         ensures tidy { OnOk result (Tidy self.new) }
         ensures keeps { Keeps 0 (spelt l.now ∷ []) self.old (P.world w.old) result (λ _. self.new) (P.world w.new) }
     {
-        let State::Receiving(x) = self.state else {
+        let State::Receiving(x) = &self.state else {
             return Ok(());
         };
         let next = (x.attempt == l.attempt) & (x.next == l.place) & (l.page < w.pages());
@@ -101,16 +102,23 @@ impl Node {
     {
         let t = l.attempt;
         self.asked = Some(t);
-        let State::Receiving(x) = self.state else {
-            return Ok(());
-        };
-        if x.attempt != t {
-            return Ok(());
+        let state = std::mem::replace(&mut self.state, State::Away);
+        match state {
+            State::Receiving(x) => {
+                if x.attempt != t {
+                    self.state = State::Receiving(x);
+                    return Ok(());
+                }
+                Right::received(x).resume(w)?;
+                self.took = t;
+                self.state = State::Running(Running { wanted: false });
+                Ok(())
+            }
+            other => {
+                self.state = other;
+                Ok(())
+            }
         }
-        Right::received(t).resume(w)?;
-        self.took = t;
-        self.state = State::Running(Running { wanted: false });
-        Ok(())
     }
 
     // The attempt that is committed here is refused: the guest goes on here, unless this host has fallen since.
@@ -137,7 +145,7 @@ impl Node {
             self.state = State::Away;
             return Ok(());
         }
-        Right::refused(t).resume(w)?;
+        Right::refused(x).resume(w)?;
         self.took = t;
         self.state = State::Running(Running { wanted: true });
         Ok(())
@@ -233,7 +241,7 @@ impl Node {
         ensures tidy { OnOk result (Tidy self.new) }
         ensures keeps { Keeps 0 (spelt l.now ∷ []) self.old (P.world w.old) result (λ _. self.new) (P.world w.new) }
     {
-        let State::Committed(x) = self.state else {
+        let State::Committed(x) = &self.state else {
             return Ok(());
         };
         if x.attempt == l.attempt {
@@ -266,32 +274,32 @@ impl Node {
         }
     }
 
-    // The next letter, if one has come: how many that is.
-    fn hear_one<P: Place>(&mut self, w: &mut P) -> Result<u32, Down>
+    // The next letter: whether one has come.
+    fn hear_one<P: Place>(&mut self, w: &mut P) -> Result<bool, Down>
         requires soon { Soon 2 (P.world w.old) }
         requires awake { self.old.awake ≡ true }
         requires tidy { Tidy self.old }
         requires ready { Ready 0 [] self.old (P.world w.old) }
         ensures used { Used 2 (P.world w.old) (is_ok result) (P.world w.new) }
         ensures steady { Steady (P.world w.old) (P.world w.new) }
-        ensures one { IfOk result (λ k. (k ≤ 1) × ((P.world w.old).left ≤ (P.world w.new).left + k + 1)) }
+        ensures one { IfOk result (λ b. (P.world w.old).left ≤ (P.world w.new).left + bit b + 1) }
         ensures awake { OnOk result (self.new.awake ≡ true) }
         ensures tidy { OnOk result (Tidy self.new) }
         ensures idle { OnOk result (moving self.old.state ≡ None → moving self.new.state ≡ None) }
-        ensures is { IfOk result (λ k. OneHeard (P.world w.old).pages k self.old self.new) }
-        ensures line { IfOk result (λ k. Hearing (P.world w.old).pages self.old (P.world w.old) k self.new (P.world w.new)) }
-        ensures none { IfOk result (λ k. k ≡ 0 → (P.world w.new).rough ≡ false → row_here (P.world w.new) ≡ []) }
+        ensures is { IfOk result (λ b. OneHeard (P.world w.old).pages b self.old self.new) }
+        ensures line { IfOk result (λ b. Hearing (P.world w.old).pages self.old (P.world w.old) (bit b) self.new (P.world w.new)) }
+        ensures none { IfOk result (λ b. b ≡ false → (P.world w.new).rough ≡ false → row_here (P.world w.new) ≡ []) }
         ensures keeps { Keeps 0 [] self.old (P.world w.old) result (λ _. self.new) (P.world w.new) }
     {
         let mut words = [0u64; 72];
         if !asks::recv(w, &mut words)? {
-            return Ok(0);
+            return Ok(false);
         }
         let Some(l) = Letter::read(&words) else {
-            return Ok(1);
+            return Ok(true);
         };
         self.heed(w, &l)?;
-        Ok(1)
+        Ok(true)
     }
 
     // All that has come, 64 letters at most: how often may still be asked at least, of `most`.
@@ -312,16 +320,12 @@ impl Node {
         ensures cost { IfOk result (λ left. (P.world w.new).rough ≡ false → most ≤ left + 2 * length (row_here (P.world w.old)) + 1) }
         ensures keeps { Keeps 0 [] self.old (P.world w.old) result (λ _. self.new) (P.world w.new) }
     {
-        let mut left = most;
-        let mut n: u32 = 0;
-        let mut more = true;
-        while n < 64 && more {
-            n += 1;
-            let k = self.hear_one(w)?;
-            left -= k + 1;
-            more = k > 0;
+        for heard in 0..64 {
+            if !self.hear_one(w)? {
+                return Ok(most - 2 * heard - 1);
+            }
         }
-        Ok(left)
+        Ok(most - 128)
     }
 }
 

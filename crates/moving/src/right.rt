@@ -4,6 +4,7 @@ ghost use Rattle.moving.specs.Hosts.{Does, MayStop, MayResume, kept, stopped, re
 ghost use Rattle.moving.specs.Used.{Soon, Used, Steady};
 ghost use Rattle.moving.specs.Calm.{Offline, Still};
 
+use super::state::{Committed, Receiving};
 use super::{Down, Place, asks};
 
 #[derive(Drop)]
@@ -26,18 +27,18 @@ impl Right {
         Ok(Right { attempt })
     }
 
-    // The other host has refused the attempt that is committed here.
-    pub fn refused(attempt: u64) -> Right
-        ensures { result.attempt ≡ attempt }
+    // The other host has refused the attempt that is committed here: what says so is given up for the right.
+    pub fn refused(x: Committed) -> Right
+        ensures { result.attempt ≡ x.attempt }
     {
-        Right { attempt }
+        Right { attempt: x.attempt }
     }
 
-    // All pages of an attempt are put here, and it's committed.
-    pub fn received(attempt: u64) -> Right
-        ensures { result.attempt ≡ attempt }
+    // All pages of an attempt are put here, and it's committed: what says so is given up for the right.
+    pub fn received(x: Receiving) -> Right
+        ensures { result.attempt ≡ x.attempt }
     {
-        Right { attempt }
+        Right { attempt: x.attempt }
     }
 
     // The attempt is committed: from then on there is no right here.

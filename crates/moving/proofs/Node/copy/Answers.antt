@@ -54,12 +54,12 @@ returns-then-not-is_over g c =
       keeps = ends_ok 62 (omega arith) (then_call (ticks n c.args.x y c.tick-y.ensures c.requires.soon.up) c.in_ok-go_on.ensures.used.fell (c.in_ok-go_on.ensures.keeps (on_state (Copying y) n) refl));
     }
 
-pub go_on-requires-then-y-gt-LONG_PASS : goal.go_on-requires-then-y-gt-LONG_PASS
-go_on-requires-then-y-gt-LONG_PASS g c =
+pub go_on-requires-then-not-follows_short_pass : goal.go_on-requires-then-not-follows_short_pass
+go_on-requires-then-not-follows_short_pass g c =
     let n = c.args.self.now in
     let y = c.tick-y-2.result in
-    let e : y ≡ ticked (anew c.args.x) = c.tick-y-2.ensures ∙ ap ticked c.anew.ensures in
-    let l = ap (λ (d : Transfer). length d.window.pages) e in
+    let e : y ≡ ticked (anew c.args.x) = c.tick-y-2.ensures ∙ ap ticked c.new_pass.ensures in
+    let l = ap (λ (d : Transfer). d.window.len) e in
     record {
       soon = search rules;
       enough = omega arith;
@@ -78,11 +78,11 @@ returns-in_err-go_on-2 g c =
       awake = unmade _ _ e;
       is = unmade _ _ e;
       makes = unmade _ _ e;
-      keeps = ends_call 62 _ c.from_residual-in_err-go_on-2.result e (ticks_anew n c.args.x y (c.tick-y-2.ensures ∙ ap ticked c.anew.ensures) c.requires.soon.up) (c.in_err-go_on-2.ensures.keeps (on_state (Copying y) n) refl) (omega arith);
+      keeps = ends_call 62 _ c.from_residual-in_err-go_on-2.result e (ticks_anew n c.args.x y (c.tick-y-2.ensures ∙ ap ticked c.new_pass.ensures) c.requires.soon.up) (c.in_err-go_on-2.ensures.keeps (on_state (Copying y) n) refl) (omega arith);
     }
 
-pub returns-then-y-gt-LONG_PASS : goal.returns-then-y-gt-LONG_PASS
-returns-then-y-gt-LONG_PASS g c =
+pub returns-then-not-follows_short_pass : goal.returns-then-not-follows_short_pass
+returns-then-not-follows_short_pass g c =
     let n = c.args.self.now in
     let y = c.tick-y-2.result in
     record {
@@ -90,9 +90,9 @@ returns-then-y-gt-LONG_PASS g c =
       steady = search rules;
       tidy = record { windowed = c.in_ok-go_on-2.ensures.sound; asked = c.requires.tidy.asked };
       awake = c.requires.awake;
-      is = again (search rules) (search rules) (record { after = c.go_on-then-y-gt-LONG_PASS.new.self; goes = subst (λ d. GoneOn (g.P.Place.world c.args.w.now).pages c.args.most d c.go_on-then-y-gt-LONG_PASS.new.self) (c.tick-y-2.ensures ∙ ap ticked c.anew.ensures) c.in_ok-go_on-2.ensures.is; node = refl });
-      makes = Over.CopyOver.again (search rules) (search rules) (record { after = c.go_on-then-y-gt-LONG_PASS.new.self; goes = subst (λ d. GoneOn (g.P.Place.world c.args.w.now).pages c.args.most d c.go_on-then-y-gt-LONG_PASS.new.self) (c.tick-y-2.ensures ∙ ap ticked c.anew.ensures) c.in_ok-go_on-2.ensures.is; within = subst (λ d. Within (g.P.Place.world c.args.w.now).pages d c.go_on-then-y-gt-LONG_PASS.new.self) (c.tick-y-2.ensures ∙ ap ticked c.anew.ensures) c.in_ok-go_on-2.ensures.within; went = subst (λ d. Went d (g.P.Place.world c.args.w.now) c.go_on-then-y-gt-LONG_PASS.new.self (g.P.Place.world c.go_on-then-y-gt-LONG_PASS.new.w)) (c.tick-y-2.ensures ∙ ap ticked c.anew.ensures) c.in_ok-go_on-2.ensures.line.0; node = refl });
-      keeps = ends_ok 62 (omega arith) (then_call (ticks_anew n c.args.x y (c.tick-y-2.ensures ∙ ap ticked c.anew.ensures) c.requires.soon.up) c.in_ok-go_on-2.ensures.used.fell (c.in_ok-go_on-2.ensures.keeps (on_state (Copying y) n) refl));
+      is = again (search rules) (search rules) (record { after = c.go_on-then-not-follows_short_pass.new.self; goes = subst (λ d. GoneOn (g.P.Place.world c.args.w.now).pages c.args.most d c.go_on-then-not-follows_short_pass.new.self) (c.tick-y-2.ensures ∙ ap ticked c.new_pass.ensures) c.in_ok-go_on-2.ensures.is; node = refl });
+      makes = Over.CopyOver.again (search rules) (search rules) (record { after = c.go_on-then-not-follows_short_pass.new.self; goes = subst (λ d. GoneOn (g.P.Place.world c.args.w.now).pages c.args.most d c.go_on-then-not-follows_short_pass.new.self) (c.tick-y-2.ensures ∙ ap ticked c.new_pass.ensures) c.in_ok-go_on-2.ensures.is; within = subst (λ d. Within (g.P.Place.world c.args.w.now).pages d c.go_on-then-not-follows_short_pass.new.self) (c.tick-y-2.ensures ∙ ap ticked c.new_pass.ensures) c.in_ok-go_on-2.ensures.within; went = subst (λ d. Went d (g.P.Place.world c.args.w.now) c.go_on-then-not-follows_short_pass.new.self (g.P.Place.world c.go_on-then-not-follows_short_pass.new.w)) (c.tick-y-2.ensures ∙ ap ticked c.new_pass.ensures) c.in_ok-go_on-2.ensures.line.0; node = refl });
+      keeps = ends_ok 62 (omega arith) (then_call (ticks_anew n c.args.x y (c.tick-y-2.ensures ∙ ap ticked c.new_pass.ensures) c.requires.soon.up) c.in_ok-go_on-2.ensures.used.fell (c.in_ok-go_on-2.ensures.keeps (on_state (Copying y) n) refl));
     }
 
 pub returns-in_err-right : goal.returns-in_err-right
@@ -108,7 +108,7 @@ returns-in_err-right g c =
       awake = unmade _ _ e;
       is = unmade _ _ e;
       makes = unmade _ _ e;
-      keeps = ends_err 62 0 _ c.from_residual-in_err-right.result e (omega arith) (begin [] (on_state (Copying c.args.x) n) (g.P.Place.world c.args.w.now) c.requires.soon.up) c.in_err-right.ensures.does (fine (λ i m o h. stop_anew n c.args.x z (c.tick-y-2.ensures ∙ ap ticked c.anew.ensures) h));
+      keeps = ends_err 62 0 _ c.from_residual-in_err-right.result e (omega arith) (begin [] (on_state (Copying c.args.x) n) (g.P.Place.world c.args.w.now) c.requires.soon.up) c.in_err-right.ensures.does (fine (λ i m o h. stop_anew n c.args.x z (c.tick-y-2.ensures ∙ ap ticked c.new_pass.ensures) h));
     }
 
 pub go_on-requires-2 : goal.go_on-requires-2
@@ -116,8 +116,8 @@ go_on-requires-2 g c =
     let n = c.args.self.now in
     let y = c.tick-y-2.result in
     let z : Pause = record { transfer = y; right = c.in_ok-right.right; turns = 1 } in
-    let e : y ≡ ticked (anew c.args.x) = c.tick-y-2.ensures ∙ ap ticked c.anew.ensures in
-    let l = ap (λ (d : Transfer). length d.window.pages) e in
+    let e : y ≡ ticked (anew c.args.x) = c.tick-y-2.ensures ∙ ap ticked c.new_pass.ensures in
+    let l = ap (λ (d : Transfer). d.window.len) e in
     record {
       soon = search rules;
       enough = omega arith;
@@ -137,7 +137,7 @@ returns-in_err-go_on-3 g c =
       awake = unmade _ _ e;
       is = unmade _ _ e;
       makes = unmade _ _ e;
-      keeps = ends_call 62 _ c.from_residual-in_err-go_on-3.result e (then_ok 0 (begin [] (on_state (Copying c.args.x) n) (g.P.Place.world c.args.w.now) c.requires.soon.up) c.in_ok-right.ensures.does refl (fine (λ i m o h. stop_anew n c.args.x z (c.tick-y-2.ensures ∙ ap ticked c.anew.ensures) h))) (c.in_err-go_on-3.ensures.keeps (on_state (Paused z) n) refl) (omega arith);
+      keeps = ends_call 62 _ c.from_residual-in_err-go_on-3.result e (then_ok 0 (begin [] (on_state (Copying c.args.x) n) (g.P.Place.world c.args.w.now) c.requires.soon.up) c.in_ok-right.ensures.does refl (fine (λ i m o h. stop_anew n c.args.x z (c.tick-y-2.ensures ∙ ap ticked c.new_pass.ensures) h))) (c.in_err-go_on-3.ensures.keeps (on_state (Paused z) n) refl) (omega arith);
     }
 
 pub returns : goal.returns
@@ -151,7 +151,7 @@ returns g c =
       steady = search rules;
       tidy = record { windowed = (c.in_ok-go_on-3.ensures.sound, c.in_ok-right.ensures.right ∙ sym (gone_attempt c.in_ok-go_on-3.ensures.is)); asked = c.requires.tidy.asked };
       awake = c.requires.awake;
-      is = stops (search rules) (search rules) (record { after = c.go_on-2.new.self; goes = subst (λ d. GoneOn (g.P.Place.world c.args.w.now).pages (c.args.most - 1) d c.go_on-2.new.self) (c.tick-y-2.ensures ∙ ap ticked c.anew.ensures) (subst (λ p. GoneOn p (c.args.most - 1) y c.go_on-2.new.self) c.in_ok-right.ensures.used.pages c.in_ok-go_on-3.ensures.is); node = search rules });
-      makes = Over.CopyOver.stops (search rules) (search rules) (record { after = c.go_on-2.new.self; goes = subst (λ d. GoneOn (g.P.Place.world c.args.w.now).pages (c.args.most - 1) d c.go_on-2.new.self) (c.tick-y-2.ensures ∙ ap ticked c.anew.ensures) (subst (λ p. GoneOn p (c.args.most - 1) y c.go_on-2.new.self) c.in_ok-right.ensures.used.pages c.in_ok-go_on-3.ensures.is); within = subst (λ d. Within (g.P.Place.world c.args.w.now).pages d c.go_on-2.new.self) (c.tick-y-2.ensures ∙ ap ticked c.anew.ensures) (subst (λ p. Within p y c.go_on-2.new.self) c.in_ok-right.ensures.used.pages c.in_ok-go_on-3.ensures.within); went = subst (λ d. Went d (g.P.Place.world c.args.w.now) c.go_on-2.new.self (g.P.Place.world c.go_on-2.new.w)) (c.tick-y-2.ensures ∙ ap ticked c.anew.ensures) (went_after k.line.calmly k.used.pages k.line.own k.line.far c.in_ok-go_on-3.ensures.line.0); node = search rules });
-      keeps = ends_ok 62 (omega arith) (then_call (then_ok 0 (begin [] (on_state (Copying c.args.x) n) (g.P.Place.world c.args.w.now) c.requires.soon.up) c.in_ok-right.ensures.does refl (fine (λ i m o h. stop_anew n c.args.x z (c.tick-y-2.ensures ∙ ap ticked c.anew.ensures) h))) c.in_ok-go_on-3.ensures.used.fell (c.in_ok-go_on-3.ensures.keeps (on_state (Paused z) n) refl));
+      is = stops (search rules) (search rules) (record { after = c.go_on-2.new.self; goes = subst (λ d. GoneOn (g.P.Place.world c.args.w.now).pages (c.args.most - 1) d c.go_on-2.new.self) (c.tick-y-2.ensures ∙ ap ticked c.new_pass.ensures) (subst (λ p. GoneOn p (c.args.most - 1) y c.go_on-2.new.self) c.in_ok-right.ensures.used.pages c.in_ok-go_on-3.ensures.is); node = search rules });
+      makes = Over.CopyOver.stops (search rules) (search rules) (record { after = c.go_on-2.new.self; goes = subst (λ d. GoneOn (g.P.Place.world c.args.w.now).pages (c.args.most - 1) d c.go_on-2.new.self) (c.tick-y-2.ensures ∙ ap ticked c.new_pass.ensures) (subst (λ p. GoneOn p (c.args.most - 1) y c.go_on-2.new.self) c.in_ok-right.ensures.used.pages c.in_ok-go_on-3.ensures.is); within = subst (λ d. Within (g.P.Place.world c.args.w.now).pages d c.go_on-2.new.self) (c.tick-y-2.ensures ∙ ap ticked c.new_pass.ensures) (subst (λ p. Within p y c.go_on-2.new.self) c.in_ok-right.ensures.used.pages c.in_ok-go_on-3.ensures.within); went = subst (λ d. Went d (g.P.Place.world c.args.w.now) c.go_on-2.new.self (g.P.Place.world c.go_on-2.new.w)) (c.tick-y-2.ensures ∙ ap ticked c.new_pass.ensures) (went_after k.line.calmly k.used.pages k.line.own k.line.far c.in_ok-go_on-3.ensures.line.0); node = search rules });
+      keeps = ends_ok 62 (omega arith) (then_call (then_ok 0 (begin [] (on_state (Copying c.args.x) n) (g.P.Place.world c.args.w.now) c.requires.soon.up) c.in_ok-right.ensures.does refl (fine (λ i m o h. stop_anew n c.args.x z (c.tick-y-2.ensures ∙ ap ticked c.new_pass.ensures) h))) c.in_ok-go_on-3.ensures.used.fell (c.in_ok-go_on-3.ensures.keeps (on_state (Paused z) n) refl));
     }

@@ -1,4 +1,5 @@
-use Rattle.std.proofs.Common.{◌≡◌, [], None, refl, ap, ◌∙◌, arith, rules}
+use Rattle.std.proofs.Common.{◌≡◌, true, [], None, refl, ap, ◌∙◌, arith, rules}
+use borrow.Author.Tests.{both_ways}
 use mathlib.Core.Path.{subst⁻¹}
 use Rattle.moving.specs.declared.Node.{Node}
 use Rattle.moving.specs.Model.{moving, heeded}
@@ -43,7 +44,7 @@ pub returns-in_default : goal.returns-in_default
 returns-in_default g c =
     record {
       line = heard_unread_at (g.P.Place.world c.args.w.now).pages c.args.self.now c.in_ok-recv.ensures.line c.if-not-branch.false c.in_default.ensures;
-      none = λ z. absurd (omega arith);
+      none = λ z. absurd (both_ways true z refl);
       used = search rules;
       steady = search rules;
       one = search rules;
@@ -82,7 +83,7 @@ pub returns : goal.returns
 returns g c =
     record {
       line = heard_some_at (g.P.Place.world c.args.w.now).pages _ c.args.self.now _ c.in-Some.l c.in_ok-recv.ensures.line c.if-not-branch.false c.in_ok-heed.ensures.line c.in_ok-recv.ensures.used.pages c.in-Some.ensures c.in_ok-heed.ensures.is;
-      none = λ z. absurd (omega arith);
+      none = λ z. absurd (both_ways true z refl);
       used = search rules;
       steady = search rules;
       one = search rules;

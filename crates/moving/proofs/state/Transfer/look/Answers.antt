@@ -13,8 +13,9 @@ use Rattle.moving.proofs.Calms.{calm_self}
 use Rattle.moving.proofs.Passes.{passed_look, asked_still, asked_sent}
 use Rattle.moving.proofs.Scans.{clear}
 use Rattle.moving.proofs.Ways.{SoFar, begin, fine, then_ok, then_call, ends_ok, ends_err_own, ends_call, unmade}
-use Rattle.moving.proofs.Carries.{pushed_by, push_carrying, skip_carrying, pushed_below, carries_has, carry_twice, or_false_left, or_false_right, skip_unsent, below_more, or_true, grown}
+use Rattle.moving.proofs.Carries.{pushed_by, push_carrying, skip_carrying, pushed_below, carries_has, carry_twice, or_left, or_right, skip_unsent, below_more, or_true, grown}
 use Rattle.moving.proofs.state.Transfer.look.Goals as goal
+use Rattle.moving.proofs.state.Transfer.look.Goals.{else-not-touched-via-then-not-touched+else-not-unsent, else-not-touched-via-else-not-touched}
 
 pub returns-in_err-touched : goal.returns-in_err-touched
 returns-in_err-touched g c =
@@ -31,13 +32,12 @@ returns-in_err-touched g c =
       keeps = grown _ e (λ n has. ends_err_own 1 _ c.from_residual.result e (clear c.args.self.now.cursor (me w)) (λ _ _. refl) (omega arith) (begin [] n w c.requires.soon.up) c.in_err-touched.ensures.does);
     }
 
-pub returns-then-not-touched-unsent : goal.returns-then-not-touched-unsent
-returns-then-not-touched-unsent g c =
+pub returns-then-not-unsent : goal.returns-then-not-unsent
+returns-then-not-unsent g c =
     let w = g.P.Place.world c.args.w.now in
     let x = c.args.self.now in
-    let none : (c.in_ok-touched.touched || c.has-unsent.result) ≡ false = c.if-not-touched-unsent.true in
-    let t : (me w).touched x.cursor ≡ false = sym c.in_ok-touched.ensures.value ∙ or_false_left _ _ none in
-    let u : member x.unsent x.cursor ≡ false = sym c.has-unsent.ensures.is ∙ or_false_right _ _ none in
+    let t : (me w).touched x.cursor ≡ false = sym c.in_ok-touched.ensures.value ∙ c.if-not-touched.true in
+    let u : member x.unsent x.cursor ≡ false = sym c.has-unsent.ensures.is ∙ c.if-not-unsent.true in
     let d : due ((me w).touched x.cursor) x ≡ false = ap (λ b. b || member x.unsent x.cursor) t ∙ u in
     let y : Transfer = record { attempt = x.attempt; window = x.window; unsent = x.unsent; cursor = x.cursor + 1; sent = x.sent; turns = x.turns; prev = x.prev } in
     let l : Looked ((me w).touched x.cursor) x y = record {
@@ -112,8 +112,8 @@ returns g c =
     let w = g.P.Place.world c.args.w.now in
     let x = c.args.self.now in
     let d : Transfer = record { attempt = x.attempt; window = c.push-place.new.self; unsent = c.remove.new.self; cursor = x.cursor + 1; sent = c.saturating_add-self.result; turns = x.turns; prev = x.prev } in
-    let p : Pushed x d x.cursor = pushed_by x d c.requires.below refl c.push-place.ensures.is c.remove.ensures in
-    let some : (c.in_ok-touched.touched || c.has-unsent.result) ≡ true = c.if-not-touched-unsent.false in
+    let p : Pushed x d x.cursor = pushed_by x d c.requires.sound c.requires.room c.requires.below refl c.push-place.ensures.is c.remove.ensures in
+    let some : (c.in_ok-touched.touched || c.has-unsent.result) ≡ true = elim c.else-not-touched.branch [ else-not-touched-via-then-not-touched+else-not-unsent w ↦ or_right _ w.if-not-unsent.false | else-not-touched-via-else-not-touched w ↦ or_left _ w.if-not-touched.false ] in
     let u : due ((me w).touched x.cursor) x ≡ true = or_true _ _ _ _ c.in_ok-touched.ensures.value c.has-unsent.ensures.is some in
     let l : Looked ((me w).touched x.cursor) x d = record {
       attempt = refl;
