@@ -1,6 +1,6 @@
 -- What a node does by itself: all stays whole, and what holds of the node alone.
 -- Assumes nothing.
-use Rattle.std.proofs.Common.{◌≡◌, ℕ, ◌+◌, ◌%◌, ◌<◌, ◌≤◌, min, Bool, true, false, ltb, List, Option, Some, None, [], is_err, Result, sym, refl, ap, ◌∙◌, subst, inl, inr, arith, lt-ltb}
+use Rattle.std.proofs.Common.{◌≡◌, ℕ, ◌+◌, ◌%◌, ◌<◌, ◌≤◌, min, Bool, true, false, ltb, List, Option, Some, None, [], is_err, Result, sym, refl, ap, ◌∙◌, subst, inl, inr, arith, lt-ltb, length}
 use mathlib.Core.Path.{subst⁻¹}
 use Rattle.std.proofs.lemmas.Bool.{cases_lt}
 use Rattle.letter.specs.declared.Kind.TheVariants.{Commit}

@@ -135,7 +135,8 @@ impl Node {
             self.state = State::Copying(y);
             return Ok(());
         }
-        let mut y = x.new_pass(Some(x.turns)).tick();
+        let turns = x.turns;
+        let mut y = x.new_pass(Some(turns)).tick();
         if !y.follows_short_pass() {
             y.go_on(w, most)?;
             self.state = State::Copying(y);

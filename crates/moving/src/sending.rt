@@ -100,7 +100,7 @@ impl Transfer {
         requires ready { Carrying 1 self.old (P.world w.old) }
         ensures used { Used 3 (P.world w.old) (is_ok result) (P.world w.new) }
         ensures steady { Steady (P.world w.old) (P.world w.new) }
-        ensures one { IfOk result (λ b. ((P.world w.old).left ≤ (P.world w.new).left + 1 + 2 * bit b) × (self.new.window.len ≡ self.old.window.len + bit b)) }
+        ensures one { IfOk result (λ b. ((P.world w.old).left ≤ (P.world w.new).left + 1 + 2 * bit b) × (length self.new.window.pages ≡ length self.old.window.pages + bit b)) }
         ensures is { OnOk result (Looked ((me (P.world w.old)).touched self.old.cursor) self.old self.new) }
         ensures line { OnOk result (Passed self.old (P.world w.old) self.new (P.world w.new)) }
         ensures asked { OnOk result (Asked self.old (P.world w.old) → Asked self.new (P.world w.new)) }

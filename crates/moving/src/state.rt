@@ -7,7 +7,7 @@ use window::Window;
 // window: pages that were sent and aren't acknowledged. unsent: pages that were never sent in this attempt.
 // A pass looks at all pages in their order: cursor is the next; sent, how many it has sent; turns, how many turns it has had.
 // prev: the turns of the pass before, if one came before.
-#[derive(Clone, Copy)]
+#[derive(Drop)]
 pub struct Transfer {
     pub attempt: u64,
     pub window: Window,

@@ -59,7 +59,7 @@ go_on-requires-then-not-follows_short_pass g c =
     let n = c.args.self.now in
     let y = c.tick-y-2.result in
     let e : y ≡ ticked (anew c.args.x) = c.tick-y-2.ensures ∙ ap ticked c.new_pass.ensures in
-    let l = ap (λ (d : Transfer). d.window.len) e in
+    let l = ap (λ (d : Transfer). length d.window.pages) e in
     record {
       soon = search rules;
       enough = omega arith;
@@ -117,7 +117,7 @@ go_on-requires-2 g c =
     let y = c.tick-y-2.result in
     let z : Pause = record { transfer = y; right = c.in_ok-right.right; turns = 1 } in
     let e : y ≡ ticked (anew c.args.x) = c.tick-y-2.ensures ∙ ap ticked c.new_pass.ensures in
-    let l = ap (λ (d : Transfer). d.window.len) e in
+    let l = ap (λ (d : Transfer). length d.window.pages) e in
     record {
       soon = search rules;
       enough = omega arith;

@@ -32,7 +32,7 @@ go_on-requires g c =
     let x = c.args.x in
     let y = c.tick-y.result in
     let e : y ≡ ticked (afresh x.transfer) = c.tick-y.ensures ∙ ap ticked c.new_pass.ensures in
-    let l = ap (λ (d : Transfer). d.window.len) e in
+    let l = ap (λ (d : Transfer). length d.window.pages) e in
     record {
       soon = search rules;
       enough = omega arith;

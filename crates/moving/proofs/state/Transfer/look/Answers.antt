@@ -112,7 +112,7 @@ returns g c =
     let w = g.P.Place.world c.args.w.now in
     let x = c.args.self.now in
     let d : Transfer = record { attempt = x.attempt; window = c.push-place.new.self; unsent = c.remove.new.self; cursor = x.cursor + 1; sent = c.saturating_add-self.result; turns = x.turns; prev = x.prev } in
-    let p : Pushed x d x.cursor = pushed_by x d c.requires.sound c.requires.room c.requires.below refl c.push-place.ensures.is c.remove.ensures in
+    let p : Pushed x d x.cursor = pushed_by x d c.requires.below refl c.push-place.ensures.is c.remove.ensures in
     let some : (c.in_ok-touched.touched || c.has-unsent.result) ≡ true = elim c.else-not-touched.branch [ else-not-touched-via-then-not-touched+else-not-unsent w ↦ or_right _ w.if-not-unsent.false | else-not-touched-via-else-not-touched w ↦ or_left _ w.if-not-touched.false ] in
     let u : due ((me w).touched x.cursor) x ≡ true = or_true _ _ _ _ c.in_ok-touched.ensures.value c.has-unsent.ensures.is some in
     let l : Looked ((me w).touched x.cursor) x d = record {

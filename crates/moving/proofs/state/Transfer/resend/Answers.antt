@@ -34,7 +34,7 @@ loop-place-preserved g c =
       used = search rules;
       steady = search rules;
       line = passed_then i.line (passed_same x a.calmly a.rests s.used.pages a.own);
-      asked = λ d. subst (λ j. AskedTo j x (g.P.Place.world c.send_page.new.w)) next (asked_next x k c.requires.sound (omega arith) a (i.asked d));
+      asked = λ d. subst (λ j. AskedTo j x (g.P.Place.world c.send_page.new.w)) next (asked_next x k c.len.ensures.sound.room (omega arith) a (i.asked d));
       so = λ n has.
           more 0 (omega arith)
           (subst (λ m. SoFar [] n (g.P.Place.world c.args.w.now) (0 + 0) [] m (g.P.Place.world c.send_page.new.w)) (carry_self n x has)

@@ -1,4 +1,4 @@
-use Rattle.std.proofs.Common.{◌≡◌, ◌+◌, ◌≤◌, Bool, true, false, [], refl, sym, ◌∙◌, subst, arith, rules}
+use Rattle.std.proofs.Common.{◌≡◌, ◌+◌, ◌≤◌, Bool, true, false, [], refl, sym, ◌∙◌, subst, arith, rules, length}
 use mir.Val.{bool_byte}
 use borrow.Author.Tests.{eqb-false}
 use Rattle.pageset.specs.Count.{bit}
@@ -38,7 +38,7 @@ look-requires-clause-ready g c =
     let r = c.requires.ready in
     let x = c.loop-left.self in
     let i = c.loop-left.invariant in
-    let ne : x.window.len ≡ 62 → ⊥ = eqb-false x.window.len 62 (sym c.is_full.ensures ∙ c.if-not-is_full.true) in
+    let ne : length x.window.pages ≡ 62 → ⊥ = eqb-false (length x.window.pages) 62 (sym c.is_full.ensures ∙ c.if-not-is_full.true) in
     let s = i.sound.room in
     record { n = carrying x r.n; has = carries_has r.n.state c.args.self.now x r.has; ready = ways.ready r.ready (omega arith) (i.so r.n r.has) }
 
@@ -80,8 +80,8 @@ loop-left-preserved g c =
       asked = λ a. l.asked (i.asked a);
       cost = omega arith;
       so = λ n has.
-          ways.more y.window.len (omega arith)
-          (subst (λ m. SoFar [] n w (x.window.len + bit c.in_ok-sent.sent) [] m (g.P.Place.world c.look.new.w)) (carry_twice n x y)
+          ways.more (length y.window.pages) (omega arith)
+          (subst (λ m. SoFar [] n w (length x.window.pages + bit c.in_ok-sent.sent) [] m (g.P.Place.world c.look.new.w)) (carry_twice n x y)
           (then_call (i.so n has) l.used.fell (l.keeps (carrying x n) (carries_has n.state c.args.self.now x has))));
     }
 
