@@ -49,7 +49,6 @@ impl Node {
     // Whether the guest, which runs here, is to be moved.
     fn wants<P: Place>(&mut self, w: &mut P, x: Running) -> Result<bool, Down>
         requires soon { Soon 1 (P.world w.old) }
-        requires awake { self.old.awake ≡ true }
         requires tidy { Tidy (on_state (State.Running x) self.old) }
         requires ready { Ready 0 [] (on_state (State.Running x) self.old) (P.world w.old) }
         ensures used { Used 1 (P.world w.old) (is_ok result) (P.world w.new) }
@@ -71,7 +70,6 @@ impl Node {
     // A new attempt.
     fn attempt<P: Place>(&mut self, w: &mut P) -> Result<Transfer, Down>
         requires soon { Soon 1 (P.world w.old) }
-        requires awake { self.old.awake ≡ true }
         requires tidy { Tidy self.old }
         requires ready { Ready 2 [] self.old (P.world w.old) }
         requires wanted { self.old.state ≡ State.Running (record { wanted = true }) }
@@ -93,14 +91,12 @@ impl Node {
     // The guest runs here: if it is to be moved, an attempt begins.
     fn run<P: Place>(&mut self, w: &mut P, x: Running, most: u32) -> Result<(), Down>
         requires soon { Soon most (P.world w.old) }
-        requires awake { self.old.awake ≡ true }
         requires tidy { Tidy (on_state (State.Running x) self.old) }
         requires ready { Ready 64 [] (on_state (State.Running x) self.old) (P.world w.old) }
         requires enough { 3 ≤ most }
         ensures used { Used most (P.world w.old) (is_ok result) (P.world w.new) }
         ensures steady { Steady (P.world w.old) (P.world w.new) }
         ensures tidy { OnOk result (Tidy self.new) }
-        ensures awake { OnOk result (self.new.awake ≡ true) }
         ensures is { OnOk result (RunDid (P.world w.old).pages most (me (P.world w.old)).told x (on_state State.Away self.old) self.new) }
         ensures makes { OnOk result (RunOver (P.world w.old).pages most (me (P.world w.old)).told x (on_state State.Away self.old) (P.world w.old) self.new (P.world w.new)) }
         ensures keeps { Keeps 64 [] (on_state (State.Running x) self.old) (P.world w.old) result (λ _. self.new) (P.world w.new) }
@@ -117,14 +113,12 @@ impl Node {
     // The guest runs here and is copied: after a short pass it is stopped.
     fn copy<P: Place>(&mut self, w: &mut P, x: Transfer, most: u32) -> Result<(), Down>
         requires soon { Soon most (P.world w.old) }
-        requires awake { self.old.awake ≡ true }
         requires tidy { Tidy (on_state (State.Copying x) self.old) }
         requires ready { Ready 62 [] (on_state (State.Copying x) self.old) (P.world w.old) }
         requires enough { 2 + 2 * x.window.len ≤ most }
         ensures used { Used most (P.world w.old) (is_ok result) (P.world w.new) }
         ensures steady { Steady (P.world w.old) (P.world w.new) }
         ensures tidy { OnOk result (Tidy self.new) }
-        ensures awake { OnOk result (self.new.awake ≡ true) }
         ensures is { OnOk result (CopyDid (P.world w.old).pages most x (on_state State.Away self.old) self.new) }
         ensures makes { OnOk result (CopyOver (P.world w.old).pages most x (on_state State.Away self.old) (P.world w.old) self.new (P.world w.new)) }
         ensures keeps { Keeps 62 [] (on_state (State.Copying x) self.old) (P.world w.old) result (λ _. self.new) (P.world w.new) }
@@ -154,7 +148,6 @@ impl Node {
     // All is there: the attempt is committed.
     fn commit<P: Place>(&mut self, w: &mut P, x: Paused) -> Result<(), Down>
         requires soon { Soon 2 (P.world w.old) }
-        requires awake { self.old.awake ≡ true }
         requires tidy { Tidy (on_state (State.Paused x) self.old) }
         requires ready { Ready 0 [] (on_state (State.Paused x) self.old) (P.world w.old) }
         requires none { x.transfer.window.len ≡ 0 }
@@ -162,7 +155,6 @@ impl Node {
         ensures used { Used 2 (P.world w.old) (is_ok result) (P.world w.new) }
         ensures steady { Steady (P.world w.old) (P.world w.new) }
         ensures tidy { OnOk result (Tidy self.new) }
-        ensures awake { OnOk result (self.new.awake ≡ true) }
         ensures is { OnOk result (self.new ≡ commits x.transfer.attempt self.old) }
         ensures line { OnOk result (Added (head Kind.Commit x.transfer.attempt 0 0) (P.world w.old) (P.world w.new)) }
         ensures keeps { Keeps 0 [] (on_state (State.Paused x) self.old) (P.world w.old) result (λ _. self.new) (P.world w.new) }
@@ -182,14 +174,12 @@ impl Node {
     // It stands too long: the guest goes on here, and is copied on.
     fn give_up<P: Place>(&mut self, w: &mut P, x: Paused, most: u32) -> Result<(), Down>
         requires soon { Soon most (P.world w.old) }
-        requires awake { self.old.awake ≡ true }
         requires tidy { Tidy (on_state (State.Paused x) self.old) }
         requires ready { Ready 62 [] (on_state (State.Paused x) self.old) (P.world w.old) }
         requires enough { 2 + 2 * x.transfer.window.len ≤ most }
         ensures used { Used most (P.world w.old) (is_ok result) (P.world w.new) }
         ensures steady { Steady (P.world w.old) (P.world w.new) }
         ensures tidy { OnOk result (Tidy self.new) }
-        ensures awake { OnOk result (self.new.awake ≡ true) }
         ensures is { OnOk result (Copies (P.world w.old).pages (most - 1) (ticked (afresh x.transfer)) (took_for x.transfer.attempt (on_state State.Away self.old)) self.new) }
         ensures makes { OnOk result (CopiesOver (P.world w.old).pages (most - 1) (ticked (afresh x.transfer)) (took_for x.transfer.attempt (on_state State.Away self.old)) (P.world w.old) self.new (P.world w.new)) }
         ensures keeps { Keeps 62 [] (on_state (State.Paused x) self.old) (P.world w.old) result (λ _. self.new) (P.world w.new) }
@@ -210,14 +200,12 @@ impl Node {
     // The guest was stopped here: the rest of it is sent, and then the attempt is committed.
     fn pause<P: Place>(&mut self, w: &mut P, x: Paused, most: u32) -> Result<(), Down>
         requires soon { Soon most (P.world w.old) }
-        requires awake { self.old.awake ≡ true }
         requires tidy { Tidy (on_state (State.Paused x) self.old) }
         requires ready { Ready 62 [] (on_state (State.Paused x) self.old) (P.world w.old) }
         requires enough { 2 + 2 * x.transfer.window.len ≤ most }
         ensures used { Used most (P.world w.old) (is_ok result) (P.world w.new) }
         ensures steady { Steady (P.world w.old) (P.world w.new) }
         ensures tidy { OnOk result (Tidy self.new) }
-        ensures awake { OnOk result (self.new.awake ≡ true) }
         ensures is { OnOk result (PauseDid (P.world w.old).pages most x (on_state State.Away self.old) self.new) }
         ensures makes { OnOk result (PauseOver (P.world w.old).pages most x (on_state State.Away self.old) (P.world w.old) self.new (P.world w.new)) }
         ensures keeps { Keeps 62 [] (on_state (State.Paused x) self.old) (P.world w.old) result (λ _. self.new) (P.world w.new) }
@@ -246,13 +234,11 @@ impl Node {
     // The attempt is committed: the other host is told so again.
     fn say_again<P: Place>(&mut self, w: &mut P, x: Committed) -> Result<(), Down>
         requires soon { Soon 1 (P.world w.old) }
-        requires awake { self.old.awake ≡ true }
         requires tidy { Tidy (on_state (State.Committed x) self.old) }
         requires ready { Ready 0 [] (on_state (State.Committed x) self.old) (P.world w.old) }
         ensures used { Used 1 (P.world w.old) (is_ok result) (P.world w.new) }
         ensures steady { Steady (P.world w.old) (P.world w.new) }
         ensures tidy { OnOk result (Tidy self.new) }
-        ensures awake { OnOk result (self.new.awake ≡ true) }
         ensures is { OnOk result (self.new ≡ said_again x self.old) }
         ensures line { OnOk result (Added (head Kind.Commit x.attempt 0 0) (P.world w.old) (P.world w.new)) }
         ensures keeps { Keeps 0 [] (on_state (State.Committed x) self.old) (P.world w.old) result (λ _. self.new) (P.world w.new) }
@@ -269,14 +255,12 @@ impl Node {
     // What it does by itself, with so many asks at most.
     pub fn act<P: Place>(&mut self, w: &mut P, most: u32) -> Result<(), Down>
         requires soon { Soon most (P.world w.old) }
-        requires awake { self.old.awake ≡ true }
         requires tidy { Tidy self.old }
         requires ready { Ready 64 [] self.old (P.world w.old) }
         requires enough { Enough most self.old.state }
         ensures used { Used most (P.world w.old) (is_ok result) (P.world w.new) }
         ensures steady { Steady (P.world w.old) (P.world w.new) }
         ensures tidy { OnOk result (Tidy self.new) }
-        ensures awake { OnOk result (self.new.awake ≡ true) }
         ensures is { OnOk result (ActedIn (P.world w.old).pages most (me (P.world w.old)).told self.old.state (on_state State.Away self.old) self.new) }
         ensures makes { OnOk result (ActedOver (P.world w.old).pages most (me (P.world w.old)).told self.old.state (on_state State.Away self.old) (P.world w.old) self.new (P.world w.new)) }
         ensures keeps { Keeps 64 [] self.old (P.world w.old) result (λ _. self.new) (P.world w.new) }

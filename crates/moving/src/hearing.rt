@@ -30,7 +30,6 @@ impl Node {
     // The other host asks whether this one is with it in its attempt.
     fn probed<P: Place>(&mut self, w: &mut P, l: &Letter) -> Result<(), Down>
         requires soon { Soon 1 (P.world w.old) }
-        requires awake { self.old.awake ≡ true }
         requires tidy { Tidy self.old }
         requires ready { Ready 0 (spelt l.now ∷ []) self.old (P.world w.old) }
         requires kind { l.now.kind ≡ Kind.Probe }
@@ -38,7 +37,6 @@ impl Node {
         ensures steady { Steady (P.world w.old) (P.world w.new) }
         ensures is { OnOk result (self.new ≡ probed l.now.attempt self.old) }
         ensures line { OnOk result (Still (P.world w.old) (P.world w.new)) }
-        ensures awake { OnOk result (self.new.awake ≡ true) }
         ensures tidy { OnOk result (Tidy self.new) }
         ensures keeps { Keeps 0 (spelt l.now ∷ []) self.old (P.world w.old) result (λ _. self.new) (P.world w.new) }
     {
@@ -59,7 +57,6 @@ impl Node {
     // A page: it is put if it is the next of the attempt that is received.
     fn page_came<P: Place>(&mut self, w: &mut P, l: &Letter) -> Result<(), Down>
         requires soon { Soon 1 (P.world w.old) }
-        requires awake { self.old.awake ≡ true }
         requires tidy { Tidy self.old }
         requires ready { Ready 0 (spelt l.now ∷ []) self.old (P.world w.old) }
         requires kind { l.now.kind ≡ Kind.Page }
@@ -67,7 +64,6 @@ impl Node {
         ensures steady { Steady (P.world w.old) (P.world w.new) }
         ensures is { OnOk result (self.new ≡ received (P.world w.old).pages l.now self.old) }
         ensures line { OnOk result (Still (P.world w.old) (P.world w.new)) }
-        ensures awake { OnOk result (self.new.awake ≡ true) }
         ensures tidy { OnOk result (Tidy self.new) }
         ensures keeps { Keeps 0 (spelt l.now ∷ []) self.old (P.world w.old) result (λ _. self.new) (P.world w.new) }
     {
@@ -89,7 +85,6 @@ impl Node {
     // The other host has committed its attempt: all of its pages are put here, so the guest goes on here.
     fn committed<P: Place>(&mut self, w: &mut P, l: &Letter) -> Result<(), Down>
         requires soon { Soon 1 (P.world w.old) }
-        requires awake { self.old.awake ≡ true }
         requires tidy { Tidy self.old }
         requires ready { Ready 0 (spelt l.now ∷ []) self.old (P.world w.old) }
         requires kind { l.now.kind ≡ Kind.Commit }
@@ -97,7 +92,6 @@ impl Node {
         ensures steady { Steady (P.world w.old) (P.world w.new) }
         ensures is { OnOk result (self.new ≡ taken l.now.attempt self.old) }
         ensures line { OnOk result (Still (P.world w.old) (P.world w.new)) }
-        ensures awake { OnOk result (self.new.awake ≡ true) }
         ensures tidy { OnOk result (Tidy self.new) }
         ensures keeps { Keeps 0 (spelt l.now ∷ []) self.old (P.world w.old) result (λ _. self.new) (P.world w.new) }
     {
@@ -125,7 +119,6 @@ impl Node {
     // The attempt that is committed here is refused: the guest goes on here, unless this host has fallen since.
     fn refused_commit<P: Place>(&mut self, w: &mut P, l: &Letter, x: Committed) -> Result<(), Down>
         requires soon { Soon 1 (P.world w.old) }
-        requires awake { self.old.awake ≡ true }
         requires tidy { Tidy (on_state (State.Committed x) self.old) }
         requires ready { Ready 0 (spelt l.now ∷ []) (on_state (State.Committed x) self.old) (P.world w.old) }
         requires kind { l.now.kind ≡ Kind.Refuse }
@@ -133,7 +126,6 @@ impl Node {
         ensures steady { Steady (P.world w.old) (P.world w.new) }
         ensures is { OnOk result (self.new ≡ refused l.now.attempt (on_state (State.Committed x) self.old)) }
         ensures line { OnOk result (Still (P.world w.old) (P.world w.new)) }
-        ensures awake { OnOk result (self.new.awake ≡ true) }
         ensures tidy { OnOk result (Tidy self.new) }
         ensures keeps { Keeps 0 (spelt l.now ∷ []) (on_state (State.Committed x) self.old) (P.world w.old) result (λ _. self.new) (P.world w.new) }
     {
@@ -155,14 +147,12 @@ impl Node {
     // The attempt for which the guest was stopped here is refused: it goes on here.
     fn refused_pause<P: Place>(&mut self, w: &mut P, l: &Letter, x: Paused) -> Result<(), Down>
         requires soon { Soon 1 (P.world w.old) }
-        requires awake { self.old.awake ≡ true }
         requires tidy { Tidy (on_state (State.Paused x) self.old) }
         requires ready { Ready 0 (spelt l.now ∷ []) (on_state (State.Paused x) self.old) (P.world w.old) }
         ensures used { Used 1 (P.world w.old) (is_ok result) (P.world w.new) }
         ensures steady { Steady (P.world w.old) (P.world w.new) }
         ensures is { OnOk result (self.new ≡ refused l.now.attempt (on_state (State.Paused x) self.old)) }
         ensures line { OnOk result (Still (P.world w.old) (P.world w.new)) }
-        ensures awake { OnOk result (self.new.awake ≡ true) }
         ensures tidy { OnOk result (Tidy self.new) }
         ensures keeps { Keeps 0 (spelt l.now ∷ []) (on_state (State.Paused x) self.old) (P.world w.old) result (λ _. self.new) (P.world w.new) }
     {
@@ -180,7 +170,6 @@ impl Node {
     // The other host never will take the attempt.
     fn refused<P: Place>(&mut self, w: &mut P, l: &Letter) -> Result<(), Down>
         requires soon { Soon 1 (P.world w.old) }
-        requires awake { self.old.awake ≡ true }
         requires tidy { Tidy self.old }
         requires ready { Ready 0 (spelt l.now ∷ []) self.old (P.world w.old) }
         requires kind { l.now.kind ≡ Kind.Refuse }
@@ -188,7 +177,6 @@ impl Node {
         ensures steady { Steady (P.world w.old) (P.world w.new) }
         ensures is { OnOk result (self.new ≡ refused l.now.attempt self.old) }
         ensures line { OnOk result (Still (P.world w.old) (P.world w.new)) }
-        ensures awake { OnOk result (self.new.awake ≡ true) }
         ensures tidy { OnOk result (Tidy self.new) }
         ensures keeps { Keeps 0 (spelt l.now ∷ []) self.old (P.world w.old) result (λ _. self.new) (P.world w.new) }
     {
@@ -210,7 +198,6 @@ impl Node {
     // The other host has put all places of the attempt below that one.
     fn acknowledged<P: Place>(&mut self, w: &mut P, l: &Letter) -> Result<(), Down>
         requires soon { Soon 1 (P.world w.old) }
-        requires awake { self.old.awake ≡ true }
         requires tidy { Tidy self.old }
         requires ready { Ready 0 (spelt l.now ∷ []) self.old (P.world w.old) }
         requires kind { l.now.kind ≡ Kind.Ack }
@@ -218,7 +205,6 @@ impl Node {
         ensures steady { Steady (P.world w.old) (P.world w.new) }
         ensures is { OnOk result (self.new ≡ on_state (acked_in l.now.attempt l.now.place self.old.state) self.old) }
         ensures line { OnOk result (Still (P.world w.old) (P.world w.new)) }
-        ensures awake { OnOk result (self.new.awake ≡ true) }
         ensures tidy { OnOk result (Tidy self.new) }
         ensures keeps { Keeps 0 (spelt l.now ∷ []) self.old (P.world w.old) result (λ _. self.new) (P.world w.new) }
     {
@@ -230,7 +216,6 @@ impl Node {
     // The other host has taken the attempt.
     fn gone<P: Place>(&mut self, w: &mut P, l: &Letter) -> Result<(), Down>
         requires soon { Soon 1 (P.world w.old) }
-        requires awake { self.old.awake ≡ true }
         requires tidy { Tidy self.old }
         requires ready { Ready 0 (spelt l.now ∷ []) self.old (P.world w.old) }
         requires kind { l.now.kind ≡ Kind.Taken }
@@ -238,7 +223,6 @@ impl Node {
         ensures steady { Steady (P.world w.old) (P.world w.new) }
         ensures is { OnOk result (self.new ≡ on_state (gone_in l.now.attempt self.old.state) self.old) }
         ensures line { OnOk result (Still (P.world w.old) (P.world w.new)) }
-        ensures awake { OnOk result (self.new.awake ≡ true) }
         ensures tidy { OnOk result (Tidy self.new) }
         ensures keeps { Keeps 0 (spelt l.now ∷ []) self.old (P.world w.old) result (λ _. self.new) (P.world w.new) }
     {
@@ -254,14 +238,12 @@ impl Node {
     // A letter has come.
     fn heed<P: Place>(&mut self, w: &mut P, l: &Letter) -> Result<(), Down>
         requires soon { Soon 1 (P.world w.old) }
-        requires awake { self.old.awake ≡ true }
         requires tidy { Tidy self.old }
         requires ready { Ready 0 (spelt l.now ∷ []) self.old (P.world w.old) }
         ensures used { Used 1 (P.world w.old) (is_ok result) (P.world w.new) }
         ensures steady { Steady (P.world w.old) (P.world w.new) }
         ensures is { OnOk result (self.new ≡ heeded (P.world w.old).pages l.now self.old) }
         ensures line { OnOk result (Still (P.world w.old) (P.world w.new)) }
-        ensures awake { OnOk result (self.new.awake ≡ true) }
         ensures tidy { OnOk result (Tidy self.new) }
         ensures keeps { Keeps 0 (spelt l.now ∷ []) self.old (P.world w.old) result (λ _. self.new) (P.world w.new) }
     {
@@ -278,13 +260,11 @@ impl Node {
     // The next letter: whether one has come.
     fn hear_one<P: Place>(&mut self, w: &mut P) -> Result<bool, Down>
         requires soon { Soon 2 (P.world w.old) }
-        requires awake { self.old.awake ≡ true }
         requires tidy { Tidy self.old }
         requires ready { Ready 0 [] self.old (P.world w.old) }
         ensures used { Used 2 (P.world w.old) (is_ok result) (P.world w.new) }
         ensures steady { Steady (P.world w.old) (P.world w.new) }
         ensures one { IfOk result (λ b. (P.world w.old).left ≤ (P.world w.new).left + bit b + 1) }
-        ensures awake { OnOk result (self.new.awake ≡ true) }
         ensures tidy { OnOk result (Tidy self.new) }
         ensures idle { OnOk result (moving self.old.state ≡ None → moving self.new.state ≡ None) }
         ensures is { IfOk result (λ b. OneHeard (P.world w.old).pages b self.old self.new) }
@@ -307,13 +287,11 @@ impl Node {
     pub fn hear<P: Place>(&mut self, w: &mut P, most: u32) -> Result<u32, Down>
         requires soon { Soon most (P.world w.old) }
         requires enough { 128 ≤ most }
-        requires awake { self.old.awake ≡ true }
         requires tidy { Tidy self.old }
         requires ready { Ready 0 [] self.old (P.world w.old) }
         ensures used { Used 128 (P.world w.old) (is_ok result) (P.world w.new) }
         ensures steady { Steady (P.world w.old) (P.world w.new) }
         ensures rest { IfOk result (λ m. (m ≤ (P.world w.new).left) × (most ≤ m + 128)) }
-        ensures awake { OnOk result (self.new.awake ≡ true) }
         ensures tidy { OnOk result (Tidy self.new) }
         ensures idle { OnOk result (moving self.old.state ≡ None → moving self.new.state ≡ None) }
         ensures is { OnOk result (Heard (P.world w.old).pages self.old self.new) }

@@ -60,7 +60,6 @@ impl Node {
         ensures idle { IfOk result (λ m. m < 256 → moving self.new.state ≡ None) }
         ensures is { OnOk result (self.new ≡ woken ((me (P.world w.old)).cell 0) ((me (P.world w.old)).cell 1) ((me (P.world w.old)).cell 2) self.old) }
         ensures line { OnOk result (Still (P.world w.old) (P.world w.new)) }
-        ensures awake { OnOk result (self.new.awake ≡ true) }
         ensures tidy { OnOk result (Tidy self.new) }
         ensures keeps { Keeps 0 [] self.old (P.world w.old) result (λ _. self.new) (P.world w.new) }
     {
@@ -88,7 +87,6 @@ impl Node {
     // Who asked in this turn is answered.
     pub fn reply<P: Place>(&mut self, w: &mut P) -> Result<(), Down>
         requires soon { Soon 1 (P.world w.old) }
-        requires awake { self.old.awake ≡ true }
         requires tidy { Tidy self.old }
         requires ready { Ready 0 [] self.old (P.world w.old) }
         ensures used { Used 1 (P.world w.old) (is_ok result) (P.world w.new) }

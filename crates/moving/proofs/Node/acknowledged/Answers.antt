@@ -14,7 +14,6 @@ returns g c =
       steady = search rules;
       is = ap (λ s. on_state s c.args.self.now) e;
       line = still_self _;
-      awake = c.requires.awake;
       tidy = ack_tidy c.args.self.now c.args.l.now c.acked-self.result e c.requires.tidy;
       keeps = ends_ok 0 (omega arith) (read (then_so 0 (begin (spelt c.args.l.now ∷ []) c.args.self.now (g.P.Place.world c.args.w.now) c.requires.soon.up) (fine (λ i z o h. ack_whole c.args.l.now c.acked-self.result e c.requires.kind c.requires.tidy.windowed h))));
     }

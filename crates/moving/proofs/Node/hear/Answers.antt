@@ -13,7 +13,6 @@ loop-heard-init g c =
     record {
       used = search rules;
       steady = search rules;
-      awake = c.requires.awake;
       tidy = c.requires.tidy;
       idle = λ e. e;
       is = record { letters = []; hears = none };
@@ -43,7 +42,6 @@ loop-heard-preserved g c =
     record {
       used = search rules;
       steady = steady_then i.steady l.steady;
-      awake = l.awake;
       tidy = l.tidy;
       idle = λ e. l.idle (i.idle e);
       is = hear_more i.used.pages i.is l.is;

@@ -11,7 +11,6 @@ invariant-loop-heard g l =
     record {
       used : Used (2 * l.heard) (g.P.Place.world l.initial.w) true (g.P.Place.world l.w);
       steady : Steady (g.P.Place.world l.initial.w) (g.P.Place.world l.w);
-      awake : l.self.awake ≡ true;
       tidy : Tidy l.self;
       idle : (moving l.initial.self.state ≡ None → moving l.self.state ≡ None);
       is : Heard (g.P.Place.world l.initial.w).pages l.initial.self l.self;

@@ -15,7 +15,6 @@ returns-in_default g c =
       steady = search rules;
       is = page_none_is c.args.self.now (g.P.Place.world c.args.w.now).pages c.args.l.now c.in_default.not-Receiving;
       line = still_self _;
-      awake = c.requires.awake;
       tidy = c.requires.tidy;
       keeps = ends_ok 0 (omega arith) (read (begin (spelt c.args.l.now ∷ []) c.args.self.now (g.P.Place.world c.args.w.now) c.requires.soon.up));
     }
@@ -27,7 +26,6 @@ returns-then-not-next g c =
       steady = search rules;
       is = page_other_is c.args.self.now (g.P.Place.world c.args.w.now).pages c.args.l.now c.in-Receiving.x c.pages.result c.in-Receiving.is c.pages.ensures c.if-not-next.true;
       line = still_self _;
-      awake = c.requires.awake;
       tidy = c.requires.tidy;
       keeps = ends_ok 0 (omega arith) (read (begin (spelt c.args.l.now ∷ []) c.args.self.now (g.P.Place.world c.args.w.now) c.requires.soon.up));
     }
@@ -39,7 +37,6 @@ returns-in_err-put g c =
       steady = search rules;
       is = unmade c.from_residual.result _ c.from_residual.ensures.0;
       line = unmade c.from_residual.result _ c.from_residual.ensures.0;
-      awake = unmade c.from_residual.result _ c.from_residual.ensures.0;
       tidy = unmade c.from_residual.result _ c.from_residual.ensures.0;
       keeps = ends_err_own 0 _ c.from_residual.result c.from_residual.ensures.0 (put_at c.args.l.now.page _ (me (g.P.Place.world c.args.w.now))) (λ _ _. refl) (omega arith) (begin (spelt c.args.l.now ∷ []) c.args.self.now (g.P.Place.world c.args.w.now) c.requires.soon.up) c.in_err-put.ensures.does;
     }
@@ -58,7 +55,6 @@ returns g c =
       steady = search rules;
       is = page_is c.args.self.now (g.P.Place.world c.args.w.now).pages c.args.l.now c.in-Receiving.x c.pages.result c.in-Receiving.is c.pages.ensures c.if-not-next.false;
       line = c.in_ok-put.ensures.line;
-      awake = c.requires.awake;
       tidy = tidy_to c.args.self.now (Receiving _) tt c.requires.tidy;
       keeps = ends_ok 0 (omega arith) (read (then_ok 0 (begin (spelt c.args.l.now ∷ []) c.args.self.now (g.P.Place.world c.args.w.now) c.requires.soon.up) c.in_ok-put.ensures.does refl (fine (λ i z o h. page_whole c.args.l.now c.in-Receiving.x c.in-Receiving.is t.0 t.1 c.requires.kind h))));
     }

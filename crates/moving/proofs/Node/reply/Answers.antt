@@ -19,7 +19,7 @@ returns-in_err-tell g c =
       line = unmade _ _ e;
       is = unmade _ _ e;
       keeps = posts_err 0 _ c.from_residual.result e (omega arith) (then_so 0 (begin [] n (g.P.Place.world c.args.w.now) c.requires.soon.up) (fine (λ i z o h. hush_whole h)))
-          (λ i z o h. answer_legit {n = silent n} c.in-Some.t c.in-Some-answer.answer c.requires.awake a.0 a.2 (sym c.in-Some-answer.ensures) h) c.in_err-tell.ensures.posts;
+          (λ i z o h. answer_legit {n = silent n} c.in-Some.t c.in-Some-answer.answer c.requires.tidy.awake a.0 a.2 (sym c.in-Some-answer.ensures) h) c.in_err-tell.ensures.posts;
     }
 
 pub returns : goal.returns
@@ -32,5 +32,5 @@ returns g c =
       line = replied c.args.self.now c.in-Some.t c.in-Some-answer.answer c.in-Some.is c.in-Some-answer.ensures c.in_ok-tell.ensures.line;
       is = refl;
       keeps = ends_ok 0 (omega arith) (posted (then_so 0 (begin [] n (g.P.Place.world c.args.w.now) c.requires.soon.up) (fine (λ i z o h. hush_whole h)))
-          (λ i z o h. answer_legit {n = silent n} c.in-Some.t c.in-Some-answer.answer c.requires.awake a.0 a.2 (sym c.in-Some-answer.ensures) h) c.in_ok-tell.ensures.posts);
+          (λ i z o h. answer_legit {n = silent n} c.in-Some.t c.in-Some-answer.answer c.requires.tidy.awake a.0 a.2 (sym c.in-Some-answer.ensures) h) c.in_ok-tell.ensures.posts);
     }

@@ -22,7 +22,7 @@ pub hear-requires : goal.hear-requires
 hear-requires g c =
     let k = c.in_ok-left.ensures in
     let s = then_call (begin [] c.args.self.now (g.P.Place.world c.args.w.now) c.requires.up) k.used.fell k.keeps in
-    record { soon = search rules; enough = search rules; awake = k.awake; tidy = k.tidy; ready = ready c.requires.ready (omega arith) s }
+    record { soon = search rules; enough = search rules; tidy = k.tidy; ready = ready c.requires.ready (omega arith) s }
 
 pub returns-in_err-left-2 : goal.returns-in_err-left-2
 returns-in_err-left-2 g c =
@@ -48,7 +48,7 @@ act-requires g c =
       | inl lt ↦ inr (l.idle (k.idle lt), omega arith)
       | inr ge ↦ inl (omega arith)
     ] in
-    record { soon = search rules; awake = l.awake; tidy = l.tidy; ready = ready c.requires.ready (omega arith) t; enough = enough_for _ _ l.tidy.windowed some }
+    record { soon = search rules; tidy = l.tidy; ready = ready c.requires.ready (omega arith) t; enough = enough_for _ _ l.tidy.windowed some }
 
 pub returns-in_err-act : goal.returns-in_err-act
 returns-in_err-act g c =
@@ -71,7 +71,7 @@ reply-requires g c =
     let t = then_call s l.used.fell l.keeps in
     let a = c.in_ok-act.ensures in
     let u = then_call t a.used.fell a.keeps in
-    record { soon = search rules; awake = a.awake; tidy = a.tidy; ready = ready c.requires.ready (omega arith) u }
+    record { soon = search rules; tidy = a.tidy; ready = ready c.requires.ready (omega arith) u }
 
 pub returns-in_err-reply : goal.returns-in_err-reply
 returns-in_err-reply g c =
@@ -126,7 +126,7 @@ returns g c =
         acts = subst (λ p. ActedOver p (c.in_ok-left-2.left - 1) (me (g.P.Place.world c.hear.new.w)).told c.hear.new.self.state (on_state Away c.hear.new.self) (g.P.Place.world c.hear.new.w) c.act.new.self (g.P.Place.world c.act.new.w)) (l.used.pages ∙ k.used.pages) a.makes;
         replies = y.line;
         node = y.is;
-        awake = ap (λ m. m.awake) y.is ∙ a.awake;
+        awake = ap (λ m. m.awake) y.is ∙ a.tidy.awake;
         mid = λ i z o h. more_whole (omega arith) (t.whole i z o h);
       };
       keeps = ends_ok 64 (omega arith) (then_call u y.used.fell y.keeps);
