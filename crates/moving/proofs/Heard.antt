@@ -32,11 +32,11 @@ use Rattle.moving.proofs.Ways.{SoFar, begin, got, gotten}
 
 -- asks add up
 pub used_more : {a : ℕ} {w v : World} {b : Bool} (c : ℕ) → Used a w b v → a ≤ c → Used c w b v
-used_more c s p = record { left = omega arith; fell = s.fell; pages = s.pages; fall = s.fall }
+used_more c s p = record { left = omega arith; fell = s.fell; pages = s.pages; fall = s.fall; calm = s.calm; still = s.still }
 
 pub used_err : {A : Type 0} {a b : ℕ} {w v x : World} (c : ℕ) (r : Result A Down) → is_err r ≡ true → Used a w true v → Used b v false x → a + b ≤ c → Used c w (is_ok r) x
 used_err c (Ok y) e s t p = no e refl
-used_err c (Err y) e s t p = record { left = omega arith; fell = t.fell; pages = t.pages ∙ s.pages; fall = t.fall }
+used_err c (Err y) e s t p = record { left = omega arith; fell = t.fell; pages = t.pages ∙ s.pages; fall = t.fall; calm = t.calm ∙ s.calm; still = t.still ∙ s.still }
 
 some_is : {a b : ℕ} → Some a ≡ Some b → a ≡ b
 some_is e = cc

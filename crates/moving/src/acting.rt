@@ -2,7 +2,7 @@
 ghost use Rattle.std.specs.Prelude.{◌≡◌, ℕ, ◌+◌, ◌-◌, ◌*◌, ◌%◌, ◌<◌, ◌≤◌, Bool, true, false, ◌||◌, List, [], is_ok, IfOk, Some, None, OnOk};
 ghost use Rattle.window.specs.Pages.{Sound};
 ghost use Rattle.letter.specs.Words.{head};
-ghost use Rattle.moving.specs.Used.{Soon, Used, Steady};
+ghost use Rattle.moving.specs.Used.{Soon, Used};
 ghost use Rattle.moving.specs.Calm.{Still, Added};
 ghost use Rattle.moving.specs.Over.{CopiesOver, RunOver, CopyOver, PauseOver, ActedOver};
 ghost use Rattle.moving.specs.Hosts.{me};
@@ -52,7 +52,6 @@ impl Node {
         requires tidy { Tidy (on_state (State.Running x) self.old) }
         requires ready { Ready 0 [] (on_state (State.Running x) self.old) (P.world w.old) }
         ensures used { Used 1 (P.world w.old) (is_ok result) (P.world w.new) }
-        ensures steady { Steady (P.world w.old) (P.world w.new) }
         ensures is { IfOk result (λ b. self.new ≡ on_state (State.Running (record { wanted = b })) self.old) }
         ensures value { IfOk result (λ b. b ≡ (x.wanted || (me (P.world w.old)).told)) }
         ensures line { OnOk result (Still (P.world w.old) (P.world w.new)) }
@@ -74,7 +73,6 @@ impl Node {
         requires ready { Ready 2 [] self.old (P.world w.old) }
         requires wanted { self.old.state ≡ State.Running (record { wanted = true }) }
         ensures used { Used 1 (P.world w.old) (is_ok result) (P.world w.new) }
-        ensures steady { Steady (P.world w.old) (P.world w.new) }
         ensures is { IfOk result (λ c. self.new ≡ on_top c.attempt self.old.state self.old) }
         ensures new { IfOk result (λ c. Sound c.window × (c.window.len ≡ 0) × (self.old.top < c.attempt)) }
         ensures pass { IfOk result (λ c. New (P.world w.old).pages self.old c) }
@@ -95,7 +93,6 @@ impl Node {
         requires ready { Ready 64 [] (on_state (State.Running x) self.old) (P.world w.old) }
         requires enough { 3 ≤ most }
         ensures used { Used most (P.world w.old) (is_ok result) (P.world w.new) }
-        ensures steady { Steady (P.world w.old) (P.world w.new) }
         ensures tidy { OnOk result (Tidy self.new) }
         ensures is { OnOk result (RunDid (P.world w.old).pages most (me (P.world w.old)).told x (on_state State.Away self.old) self.new) }
         ensures makes { OnOk result (RunOver (P.world w.old).pages most (me (P.world w.old)).told x (on_state State.Away self.old) (P.world w.old) self.new (P.world w.new)) }
@@ -117,7 +114,6 @@ impl Node {
         requires ready { Ready 62 [] (on_state (State.Copying x) self.old) (P.world w.old) }
         requires enough { 2 + 2 * x.window.len ≤ most }
         ensures used { Used most (P.world w.old) (is_ok result) (P.world w.new) }
-        ensures steady { Steady (P.world w.old) (P.world w.new) }
         ensures tidy { OnOk result (Tidy self.new) }
         ensures is { OnOk result (CopyDid (P.world w.old).pages most x (on_state State.Away self.old) self.new) }
         ensures makes { OnOk result (CopyOver (P.world w.old).pages most x (on_state State.Away self.old) (P.world w.old) self.new (P.world w.new)) }
@@ -153,7 +149,6 @@ impl Node {
         requires none { x.transfer.window.len ≡ 0 }
         requires all { x.transfer.cursor ≡ (P.world w.old).pages }
         ensures used { Used 2 (P.world w.old) (is_ok result) (P.world w.new) }
-        ensures steady { Steady (P.world w.old) (P.world w.new) }
         ensures tidy { OnOk result (Tidy self.new) }
         ensures is { OnOk result (self.new ≡ commits x.transfer.attempt self.old) }
         ensures line { OnOk result (Added (head Kind.Commit x.transfer.attempt 0 0) (P.world w.old) (P.world w.new)) }
@@ -178,7 +173,6 @@ impl Node {
         requires ready { Ready 62 [] (on_state (State.Paused x) self.old) (P.world w.old) }
         requires enough { 2 + 2 * x.transfer.window.len ≤ most }
         ensures used { Used most (P.world w.old) (is_ok result) (P.world w.new) }
-        ensures steady { Steady (P.world w.old) (P.world w.new) }
         ensures tidy { OnOk result (Tidy self.new) }
         ensures is { OnOk result (Copies (P.world w.old).pages (most - 1) (ticked (afresh x.transfer)) (took_for x.transfer.attempt (on_state State.Away self.old)) self.new) }
         ensures makes { OnOk result (CopiesOver (P.world w.old).pages (most - 1) (ticked (afresh x.transfer)) (took_for x.transfer.attempt (on_state State.Away self.old)) (P.world w.old) self.new (P.world w.new)) }
@@ -204,7 +198,6 @@ impl Node {
         requires ready { Ready 62 [] (on_state (State.Paused x) self.old) (P.world w.old) }
         requires enough { 2 + 2 * x.transfer.window.len ≤ most }
         ensures used { Used most (P.world w.old) (is_ok result) (P.world w.new) }
-        ensures steady { Steady (P.world w.old) (P.world w.new) }
         ensures tidy { OnOk result (Tidy self.new) }
         ensures is { OnOk result (PauseDid (P.world w.old).pages most x (on_state State.Away self.old) self.new) }
         ensures makes { OnOk result (PauseOver (P.world w.old).pages most x (on_state State.Away self.old) (P.world w.old) self.new (P.world w.new)) }
@@ -237,7 +230,6 @@ impl Node {
         requires tidy { Tidy (on_state (State.Committed x) self.old) }
         requires ready { Ready 0 [] (on_state (State.Committed x) self.old) (P.world w.old) }
         ensures used { Used 1 (P.world w.old) (is_ok result) (P.world w.new) }
-        ensures steady { Steady (P.world w.old) (P.world w.new) }
         ensures tidy { OnOk result (Tidy self.new) }
         ensures is { OnOk result (self.new ≡ said_again x self.old) }
         ensures line { OnOk result (Added (head Kind.Commit x.attempt 0 0) (P.world w.old) (P.world w.new)) }
@@ -259,7 +251,6 @@ impl Node {
         requires ready { Ready 64 [] self.old (P.world w.old) }
         requires enough { Enough most self.old.state }
         ensures used { Used most (P.world w.old) (is_ok result) (P.world w.new) }
-        ensures steady { Steady (P.world w.old) (P.world w.new) }
         ensures tidy { OnOk result (Tidy self.new) }
         ensures is { OnOk result (ActedIn (P.world w.old).pages most (me (P.world w.old)).told self.old.state (on_state State.Away self.old) self.new) }
         ensures makes { OnOk result (ActedOver (P.world w.old).pages most (me (P.world w.old)).told self.old.state (on_state State.Away self.old) (P.world w.old) self.new (P.world w.new)) }

@@ -2,7 +2,7 @@
 ghost use Rattle.std.specs.Prelude.{◌≡◌, ℕ, ◌+◌, ◌-◌, ◌*◌, ◌<◌, ◌≤◌, Bool, true, false, List, [], ◌∷◌, length, is_ok, IfOk, Some, None, OnOk};
 ghost use Rattle.letter.specs.Words.{spelt};
 ghost use Rattle.pageset.specs.Count.{bit};
-ghost use Rattle.moving.specs.Used.{Soon, Used, Steady};
+ghost use Rattle.moving.specs.Used.{Soon, Used};
 ghost use Rattle.moving.specs.Calm.{row_here, Still, Hearing, HeardAll};
 ghost use Rattle.moving.specs.Model.{Tidy, Windowed, moving, begins, probed, received, taken, refused, refused_in, acked, acked_in, gone_in, on_state, heeded};
 ghost use Rattle.moving.specs.Acted.{Heard, OneHeard};
@@ -34,7 +34,6 @@ impl Node {
         requires ready { Ready 0 (spelt l.now ∷ []) self.old (P.world w.old) }
         requires kind { l.now.kind ≡ Kind.Probe }
         ensures used { Used 1 (P.world w.old) (is_ok result) (P.world w.new) }
-        ensures steady { Steady (P.world w.old) (P.world w.new) }
         ensures is { OnOk result (self.new ≡ probed l.now.attempt self.old) }
         ensures line { OnOk result (Still (P.world w.old) (P.world w.new)) }
         ensures tidy { OnOk result (Tidy self.new) }
@@ -61,7 +60,6 @@ impl Node {
         requires ready { Ready 0 (spelt l.now ∷ []) self.old (P.world w.old) }
         requires kind { l.now.kind ≡ Kind.Page }
         ensures used { Used 1 (P.world w.old) (is_ok result) (P.world w.new) }
-        ensures steady { Steady (P.world w.old) (P.world w.new) }
         ensures is { OnOk result (self.new ≡ received (P.world w.old).pages l.now self.old) }
         ensures line { OnOk result (Still (P.world w.old) (P.world w.new)) }
         ensures tidy { OnOk result (Tidy self.new) }
@@ -89,7 +87,6 @@ impl Node {
         requires ready { Ready 0 (spelt l.now ∷ []) self.old (P.world w.old) }
         requires kind { l.now.kind ≡ Kind.Commit }
         ensures used { Used 1 (P.world w.old) (is_ok result) (P.world w.new) }
-        ensures steady { Steady (P.world w.old) (P.world w.new) }
         ensures is { OnOk result (self.new ≡ taken l.now.attempt self.old) }
         ensures line { OnOk result (Still (P.world w.old) (P.world w.new)) }
         ensures tidy { OnOk result (Tidy self.new) }
@@ -123,7 +120,6 @@ impl Node {
         requires ready { Ready 0 (spelt l.now ∷ []) (on_state (State.Committed x) self.old) (P.world w.old) }
         requires kind { l.now.kind ≡ Kind.Refuse }
         ensures used { Used 1 (P.world w.old) (is_ok result) (P.world w.new) }
-        ensures steady { Steady (P.world w.old) (P.world w.new) }
         ensures is { OnOk result (self.new ≡ refused l.now.attempt (on_state (State.Committed x) self.old)) }
         ensures line { OnOk result (Still (P.world w.old) (P.world w.new)) }
         ensures tidy { OnOk result (Tidy self.new) }
@@ -150,7 +146,6 @@ impl Node {
         requires tidy { Tidy (on_state (State.Paused x) self.old) }
         requires ready { Ready 0 (spelt l.now ∷ []) (on_state (State.Paused x) self.old) (P.world w.old) }
         ensures used { Used 1 (P.world w.old) (is_ok result) (P.world w.new) }
-        ensures steady { Steady (P.world w.old) (P.world w.new) }
         ensures is { OnOk result (self.new ≡ refused l.now.attempt (on_state (State.Paused x) self.old)) }
         ensures line { OnOk result (Still (P.world w.old) (P.world w.new)) }
         ensures tidy { OnOk result (Tidy self.new) }
@@ -174,7 +169,6 @@ impl Node {
         requires ready { Ready 0 (spelt l.now ∷ []) self.old (P.world w.old) }
         requires kind { l.now.kind ≡ Kind.Refuse }
         ensures used { Used 1 (P.world w.old) (is_ok result) (P.world w.new) }
-        ensures steady { Steady (P.world w.old) (P.world w.new) }
         ensures is { OnOk result (self.new ≡ refused l.now.attempt self.old) }
         ensures line { OnOk result (Still (P.world w.old) (P.world w.new)) }
         ensures tidy { OnOk result (Tidy self.new) }
@@ -202,7 +196,6 @@ impl Node {
         requires ready { Ready 0 (spelt l.now ∷ []) self.old (P.world w.old) }
         requires kind { l.now.kind ≡ Kind.Ack }
         ensures used { Used 1 (P.world w.old) (is_ok result) (P.world w.new) }
-        ensures steady { Steady (P.world w.old) (P.world w.new) }
         ensures is { OnOk result (self.new ≡ on_state (acked_in l.now.attempt l.now.place self.old.state) self.old) }
         ensures line { OnOk result (Still (P.world w.old) (P.world w.new)) }
         ensures tidy { OnOk result (Tidy self.new) }
@@ -220,7 +213,6 @@ impl Node {
         requires ready { Ready 0 (spelt l.now ∷ []) self.old (P.world w.old) }
         requires kind { l.now.kind ≡ Kind.Taken }
         ensures used { Used 1 (P.world w.old) (is_ok result) (P.world w.new) }
-        ensures steady { Steady (P.world w.old) (P.world w.new) }
         ensures is { OnOk result (self.new ≡ on_state (gone_in l.now.attempt self.old.state) self.old) }
         ensures line { OnOk result (Still (P.world w.old) (P.world w.new)) }
         ensures tidy { OnOk result (Tidy self.new) }
@@ -241,7 +233,6 @@ impl Node {
         requires tidy { Tidy self.old }
         requires ready { Ready 0 (spelt l.now ∷ []) self.old (P.world w.old) }
         ensures used { Used 1 (P.world w.old) (is_ok result) (P.world w.new) }
-        ensures steady { Steady (P.world w.old) (P.world w.new) }
         ensures is { OnOk result (self.new ≡ heeded (P.world w.old).pages l.now self.old) }
         ensures line { OnOk result (Still (P.world w.old) (P.world w.new)) }
         ensures tidy { OnOk result (Tidy self.new) }
@@ -263,7 +254,6 @@ impl Node {
         requires tidy { Tidy self.old }
         requires ready { Ready 0 [] self.old (P.world w.old) }
         ensures used { Used 2 (P.world w.old) (is_ok result) (P.world w.new) }
-        ensures steady { Steady (P.world w.old) (P.world w.new) }
         ensures one { IfOk result (λ b. (P.world w.old).left ≤ (P.world w.new).left + bit b + 1) }
         ensures tidy { OnOk result (Tidy self.new) }
         ensures idle { OnOk result (moving self.old.state ≡ None → moving self.new.state ≡ None) }
@@ -290,7 +280,6 @@ impl Node {
         requires tidy { Tidy self.old }
         requires ready { Ready 0 [] self.old (P.world w.old) }
         ensures used { Used 128 (P.world w.old) (is_ok result) (P.world w.new) }
-        ensures steady { Steady (P.world w.old) (P.world w.new) }
         ensures rest { IfOk result (λ m. (m ≤ (P.world w.new).left) × (most ≤ m + 128)) }
         ensures tidy { OnOk result (Tidy self.new) }
         ensures idle { OnOk result (moving self.old.state ≡ None → moving self.new.state ≡ None) }

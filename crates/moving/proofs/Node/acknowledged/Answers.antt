@@ -11,7 +11,6 @@ returns g c =
     let e : c.acked-self.result ≡ acked_in c.args.l.now.attempt c.args.l.now.place c.args.self.now.state = c.acked-self.ensures ∙ ap (acked_in c.args.l.now.attempt c.args.l.now.place) c.replace-state.ensures.value in
     record {
       used = search rules;
-      steady = search rules;
       is = ap (λ s. on_state s c.args.self.now) e;
       line = still_self _;
       tidy = ack_tidy c.args.self.now c.args.l.now c.acked-self.result e c.requires.tidy;

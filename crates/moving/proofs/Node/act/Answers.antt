@@ -16,7 +16,6 @@ pub returns-in-Running : goal.returns-in-Running
 returns-in-Running g c =
     record {
       used = c.run.ensures.used;
-      steady = c.run.ensures.steady;
       tidy = c.run.ensures.tidy;
       is = subst (λ s. IfOk c.run.result (λ _. ActedIn (g.P.Place.world c.args.w.now).pages c.args.most (me (g.P.Place.world c.args.w.now)).told s (on_state Away c.args.self.now) c.run.new.self)) c.in-Running.ensures.value c.run.ensures.is;
       makes = subst (λ s. IfOk c.run.result (λ _. ActedOver (g.P.Place.world c.args.w.now).pages c.args.most (me (g.P.Place.world c.args.w.now)).told s (on_state Away c.args.self.now) (g.P.Place.world c.args.w.now) c.run.new.self (g.P.Place.world c.run.new.w))) c.in-Running.ensures.value c.run.ensures.makes;
@@ -27,7 +26,6 @@ pub returns-in-Copying : goal.returns-in-Copying
 returns-in-Copying g c =
     record {
       used = c.copy.ensures.used;
-      steady = c.copy.ensures.steady;
       tidy = c.copy.ensures.tidy;
       is = subst (λ s. IfOk c.copy.result (λ _. ActedIn (g.P.Place.world c.args.w.now).pages c.args.most (me (g.P.Place.world c.args.w.now)).told s (on_state Away c.args.self.now) c.copy.new.self)) c.in-Copying.ensures.value c.copy.ensures.is;
       makes = subst (λ s. IfOk c.copy.result (λ _. ActedOver (g.P.Place.world c.args.w.now).pages c.args.most (me (g.P.Place.world c.args.w.now)).told s (on_state Away c.args.self.now) (g.P.Place.world c.args.w.now) c.copy.new.self (g.P.Place.world c.copy.new.w))) c.in-Copying.ensures.value c.copy.ensures.makes;
@@ -38,7 +36,6 @@ pub returns-in-Paused : goal.returns-in-Paused
 returns-in-Paused g c =
     record {
       used = c.pause.ensures.used;
-      steady = c.pause.ensures.steady;
       tidy = c.pause.ensures.tidy;
       is = subst (λ s. IfOk c.pause.result (λ _. ActedIn (g.P.Place.world c.args.w.now).pages c.args.most (me (g.P.Place.world c.args.w.now)).told s (on_state Away c.args.self.now) c.pause.new.self)) c.in-Paused.ensures.value c.pause.ensures.is;
       makes = subst (λ s. IfOk c.pause.result (λ _. ActedOver (g.P.Place.world c.args.w.now).pages c.args.most (me (g.P.Place.world c.args.w.now)).told s (on_state Away c.args.self.now) (g.P.Place.world c.args.w.now) c.pause.new.self (g.P.Place.world c.pause.new.w))) c.in-Paused.ensures.value c.pause.ensures.makes;
@@ -50,7 +47,6 @@ returns-in-Committed g c =
     let e : 1 ≤ c.args.most = subst⁻¹ (Enough c.args.most) c.in-Committed.ensures.value c.requires.enough in
     record {
       used = used_more c.args.most c.say_again.ensures.used e;
-      steady = c.say_again.ensures.steady;
       tidy = c.say_again.ensures.tidy;
       is = subst (λ s. IfOk c.say_again.result (λ _. ActedIn (g.P.Place.world c.args.w.now).pages c.args.most (me (g.P.Place.world c.args.w.now)).told s (on_state Away c.args.self.now) c.say_again.new.self)) c.in-Committed.ensures.value c.say_again.ensures.is;
       makes = subst (λ s. IfOk c.say_again.result (λ _. ActedOver (g.P.Place.world c.args.w.now).pages c.args.most (me (g.P.Place.world c.args.w.now)).told s (on_state Away c.args.self.now) (g.P.Place.world c.args.w.now) c.say_again.new.self (g.P.Place.world c.say_again.new.w))) c.in-Committed.ensures.value (both_made c.say_again.result _ _ c.say_again.ensures.is c.say_again.ensures.line);
@@ -63,7 +59,6 @@ returns-in-Receiving g c =
     let q = put_back c.args.self.now (Receiving c.in-Receiving.x) (sym v) in
     record {
       used = search rules;
-      steady = search rules;
       tidy = subst⁻¹ Tidy q c.requires.tidy;
       is = subst (λ s. ActedIn (g.P.Place.world c.args.w.now).pages c.args.most (me (g.P.Place.world c.args.w.now)).told s (on_state Away c.args.self.now) (on_state (Receiving c.in-Receiving.x) c.args.self.now)) v refl;
       makes = subst (λ s. ActedOver (g.P.Place.world c.args.w.now).pages c.args.most (me (g.P.Place.world c.args.w.now)).told s (on_state Away c.args.self.now) (g.P.Place.world c.args.w.now) (on_state (Receiving c.in-Receiving.x) c.args.self.now) (g.P.Place.world c.args.w.now)) v (refl, still_self _);
@@ -76,7 +71,6 @@ returns-in-Away g c =
     let q = put_back c.args.self.now c.replace-state.new.dest (sym v ∙ sym c.replace-state.ensures.after) in
     record {
       used = search rules;
-      steady = search rules;
       tidy = subst⁻¹ Tidy q c.requires.tidy;
       is = subst (λ s. ActedIn (g.P.Place.world c.args.w.now).pages c.args.most (me (g.P.Place.world c.args.w.now)).told s (on_state Away c.args.self.now) (on_state c.replace-state.new.dest c.args.self.now)) v (ap (λ s. on_state s c.args.self.now) c.replace-state.ensures.after);
       makes = subst (λ s. ActedOver (g.P.Place.world c.args.w.now).pages c.args.most (me (g.P.Place.world c.args.w.now)).told s (on_state Away c.args.self.now) (g.P.Place.world c.args.w.now) (on_state c.replace-state.new.dest c.args.self.now) (g.P.Place.world c.args.w.now)) v (ap (λ s. on_state s c.args.self.now) c.replace-state.ensures.after, still_self _);

@@ -14,7 +14,6 @@ returns-in_err-keep g c =
     record {
       line = unmade _ _ e;
       used = search rules;
-      steady = search rules;
       is = unmade _ _ e;
       new = unmade _ _ e;
       pass = unmade _ _ e;
@@ -31,7 +30,6 @@ returns g c =
     record {
       line = c.in_ok-keep.ensures.line;
       used = search rules;
-      steady = search rules;
       is = ap (λ a. on_top a n.state n) (sym t.attempt);
       new = (t.window.0, t.window.1.0, search rules);
       pass = record { above = search rules; least = search rules; own = search rules; empty = search rules; base = search rules; all = search rules; cursor = search rules; sent = search rules; turns = search rules; prev = search rules };

@@ -16,7 +16,6 @@ returns-in_default g c =
     let q = ap (asked_for t) (put_back n c.replace-state.result (sym v)) in
     record {
       used = search rules;
-      steady = search rules;
       is = q ∙ commit_none_is n t (λ x e. c.in_default.not-Receiving x (v ∙ e));
       line = still_self _;
       tidy = subst⁻¹ Tidy q (commit_none_tidy c.args.l.now c.requires.kind c.requires.ready.whole c.requires.tidy);
@@ -31,7 +30,6 @@ returns-then-x-t g c =
     let q = ap (asked_for t) (put_back n (Receiving c.in-Receiving.x) e) in
     record {
       used = search rules;
-      steady = search rules;
       is = q ∙ commit_other_is n t c.in-Receiving.x e c.if-x-t.true;
       line = still_self _;
       tidy = subst⁻¹ Tidy q (commit_none_tidy c.args.l.now c.requires.kind c.requires.ready.whole c.requires.tidy);
@@ -49,7 +47,6 @@ pub returns-in_err-resume-in-Receiving : goal.returns-in_err-resume-in-Receiving
 returns-in_err-resume-in-Receiving g c =
     record {
       used = search rules;
-      steady = search rules;
       is = unmade c.from_residual.result _ c.from_residual.ensures.0;
       line = unmade c.from_residual.result _ c.from_residual.ensures.0;
       tidy = unmade c.from_residual.result _ c.from_residual.ensures.0;
@@ -61,7 +58,6 @@ returns-in_ok-resume-in-Receiving g c =
     let e = sym c.in-Receiving.ensures.value in
     record {
       used = search rules;
-      steady = search rules;
       is = commit_is c.args.self.now c.args.l.now.attempt c.in-Receiving.x e c.if-x-t.false;
       line = c.in_ok-resume-in-Receiving.ensures.line;
       tidy = commit_tidy c.args.l.now c.requires.kind c.requires.tidy.awake c.requires.ready.whole;

@@ -20,7 +20,6 @@ returns-in_err-resume g c =
     let e = c.from_residual.ensures.0 in
     record {
       used = search rules;
-      steady = search rules;
       tidy = unmade _ _ e;
       is = unmade _ _ e;
       makes = unmade _ _ e;
@@ -49,7 +48,6 @@ returns-in_err-go_on g c =
     let e = c.from_residual-in_err-go_on.ensures.0 in
     record {
       used = search rules;
-      steady = search rules;
       tidy = unmade _ _ e;
       is = unmade _ _ e;
       makes = unmade _ _ e;
@@ -65,7 +63,6 @@ returns g c =
     let k = c.in_ok-resume.ensures in
     record {
       used = search rules;
-      steady = search rules;
       tidy = record { awake = c.requires.tidy.awake; windowed = c.in_ok-go_on.ensures.sound; asked = c.requires.tidy.asked };
       is = record { after = c.go_on.new.self; goes = subst (λ d. GoneOn (g.P.Place.world c.args.w.now).pages (c.args.most - 1) d c.go_on.new.self) e (subst (λ p. GoneOn p (c.args.most - 1) y c.go_on.new.self) c.in_ok-resume.ensures.used.pages c.in_ok-go_on.ensures.is); node = ap (λ (d : Transfer). on_state (Copying c.go_on.new.self) (took_for d.attempt n)) e };
       makes = record { after = c.go_on.new.self; goes = subst (λ d. GoneOn (g.P.Place.world c.args.w.now).pages (c.args.most - 1) d c.go_on.new.self) e (subst (λ p. GoneOn p (c.args.most - 1) y c.go_on.new.self) c.in_ok-resume.ensures.used.pages c.in_ok-go_on.ensures.is); within = subst (λ d. Within (g.P.Place.world c.args.w.now).pages d c.go_on.new.self) e (subst (λ p. Within p y c.go_on.new.self) c.in_ok-resume.ensures.used.pages c.in_ok-go_on.ensures.within); went = subst (λ d. Went d (g.P.Place.world c.args.w.now) c.go_on.new.self (g.P.Place.world c.go_on.new.w)) e (went_after k.line.calmly k.used.pages k.line.own k.line.far c.in_ok-go_on.ensures.line.0); node = ap (λ (d : Transfer). on_state (Copying c.go_on.new.self) (took_for d.attempt n)) e };

@@ -11,7 +11,6 @@ returns-in_default g c =
     record {
       line = still_self _;
       used = search rules;
-      steady = search rules;
       is = gone_none_is c.args.self.now c.args.l.now.attempt c.in_default.not-Committed;
       tidy = c.requires.tidy;
       keeps = ends_ok 0 (omega arith) (read (begin (spelt c.args.l.now ∷ []) c.args.self.now (g.P.Place.world c.args.w.now) c.requires.soon.up));
@@ -22,7 +21,6 @@ returns-then-x-l g c =
     record {
       line = still_self _;
       used = search rules;
-      steady = search rules;
       is = gone_is c.args.self.now c.args.l.now.attempt c.in-Committed.x c.in-Committed.is c.if-x-l.true;
       tidy = tidy_to c.args.self.now Away tt c.requires.tidy;
       keeps = ends_ok 0 (omega arith) (read (then_so 0 (begin (spelt c.args.l.now ∷ []) c.args.self.now (g.P.Place.world c.args.w.now) c.requires.soon.up) (fine (λ i z o h. gone_whole c.args.l.now c.in-Committed.x c.in-Committed.is c.if-x-l.true c.requires.kind h))));
@@ -33,7 +31,6 @@ returns-else-x-l g c =
     record {
       line = still_self _;
       used = search rules;
-      steady = search rules;
       is = gone_other_is c.args.self.now c.args.l.now.attempt c.in-Committed.x c.in-Committed.is c.if-x-l.false;
       tidy = c.requires.tidy;
       keeps = ends_ok 0 (omega arith) (read (begin (spelt c.args.l.now ∷ []) c.args.self.now (g.P.Place.world c.args.w.now) c.requires.soon.up));

@@ -12,7 +12,6 @@ pub returns-in_default : goal.returns-in_default
 returns-in_default g c =
     record {
       used = search rules;
-      steady = search rules;
       is = page_none_is c.args.self.now (g.P.Place.world c.args.w.now).pages c.args.l.now c.in_default.not-Receiving;
       line = still_self _;
       tidy = c.requires.tidy;
@@ -23,7 +22,6 @@ pub returns-then-not-next : goal.returns-then-not-next
 returns-then-not-next g c =
     record {
       used = search rules;
-      steady = search rules;
       is = page_other_is c.args.self.now (g.P.Place.world c.args.w.now).pages c.args.l.now c.in-Receiving.x c.pages.result c.in-Receiving.is c.pages.ensures c.if-not-next.true;
       line = still_self _;
       tidy = c.requires.tidy;
@@ -34,7 +32,6 @@ pub returns-in_err-put : goal.returns-in_err-put
 returns-in_err-put g c =
     record {
       used = search rules;
-      steady = search rules;
       is = unmade c.from_residual.result _ c.from_residual.ensures.0;
       line = unmade c.from_residual.result _ c.from_residual.ensures.0;
       tidy = unmade c.from_residual.result _ c.from_residual.ensures.0;
@@ -52,7 +49,6 @@ returns g c =
     let t = page_test c.in-Receiving.x c.args.l.now c.pages.result c.if-not-next.false in
     record {
       used = search rules;
-      steady = search rules;
       is = page_is c.args.self.now (g.P.Place.world c.args.w.now).pages c.args.l.now c.in-Receiving.x c.pages.result c.in-Receiving.is c.pages.ensures c.if-not-next.false;
       line = c.in_ok-put.ensures.line;
       tidy = tidy_to c.args.self.now (Receiving _) tt c.requires.tidy;

@@ -18,7 +18,6 @@ pub returns-then-is_over : goal.returns-then-is_over
 returns-then-is_over g c =
     record {
       used = search rules;
-      steady = search rules;
       tidy = c.commit.ensures.tidy;
       is = search rules;
       makes = search rules;
@@ -49,7 +48,6 @@ returns-in_err-go_on g c =
     let e = c.from_residual.ensures.0 in
     record {
       used = search rules;
-      steady = search rules;
       tidy = unmade _ _ e;
       is = unmade _ _ e;
       makes = unmade _ _ e;
@@ -64,7 +62,6 @@ returns g c =
     let z : Pause = record { transfer = y; right = x.right; turns = x.turns + 1 } in
     record {
       used = search rules;
-      steady = search rules;
       tidy = record { awake = c.requires.tidy.awake; windowed = (c.in_ok-go_on.ensures.sound, c.requires.tidy.windowed.1 ∙ ap (λ (d : Transfer). d.attempt) (sym c.tick-y.ensures) ∙ sym (gone_attempt c.in_ok-go_on.ensures.is)); asked = c.requires.tidy.asked };
       is = goes (search rules) (search rules) (record { after = c.go_on.new.self; goes = subst (λ d. GoneOn (g.P.Place.world c.args.w.now).pages c.args.most d c.go_on.new.self) c.tick-y.ensures c.in_ok-go_on.ensures.is; node = refl });
       makes = Over.PauseOver.goes (search rules) (search rules) (record { after = c.go_on.new.self; goes = subst (λ d. GoneOn (g.P.Place.world c.args.w.now).pages c.args.most d c.go_on.new.self) c.tick-y.ensures c.in_ok-go_on.ensures.is; within = subst (λ d. Within (g.P.Place.world c.args.w.now).pages d c.go_on.new.self) c.tick-y.ensures c.in_ok-go_on.ensures.within; went = subst (λ d. Went d (g.P.Place.world c.args.w.now) c.go_on.new.self (g.P.Place.world c.go_on.new.w)) c.tick-y.ensures c.in_ok-go_on.ensures.line.0; node = refl }) c.in_ok-go_on.ensures.line.1;

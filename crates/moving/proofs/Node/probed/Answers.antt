@@ -10,7 +10,6 @@ pub returns-then-not-t-self : goal.returns-then-not-t-self
 returns-then-not-t-self g c =
     record {
       used = search rules;
-      steady = search rules;
       is = probe_none_is c.args.self.now c.args.l.now.attempt c.may_begin.result c.may_begin.ensures c.if-not-t-self.true;
       line = still_self _;
       tidy = probe_none_tidy c.args.l.now c.may_begin.result c.may_begin.ensures c.if-not-t-self.true c.requires.kind c.requires.ready.whole c.requires.tidy;
@@ -22,7 +21,6 @@ pub returns-in_err-keep : goal.returns-in_err-keep
 returns-in_err-keep g c =
     record {
       used = search rules;
-      steady = search rules;
       is = unmade c.from_residual.result _ c.from_residual.ensures.0;
       line = unmade c.from_residual.result _ c.from_residual.ensures.0;
       tidy = unmade c.from_residual.result _ c.from_residual.ensures.0;
@@ -34,7 +32,6 @@ pub returns : goal.returns
 returns g c =
     record {
       used = search rules;
-      steady = search rules;
       is = probe_is c.args.self.now c.args.l.now.attempt c.may_begin.result c.may_begin.ensures c.if-not-t-self.false;
       line = c.in_ok-keep.ensures.line;
       tidy = probe_tidy c.args.l.now c.requires.kind c.requires.tidy.awake c.requires.ready.whole;

@@ -14,7 +14,6 @@ returns-in-Committed g c =
     let q = put_back c.args.self.now (Committed c.in-Committed.x) (sym c.in-Committed.ensures.value) in
     record {
       used = c.refused_commit.ensures.used;
-      steady = c.refused_commit.ensures.steady;
       is = subst (λ k. IfOk c.refused_commit.result (λ _. c.refused_commit.new.self ≡ refused c.args.l.now.attempt k)) q c.refused_commit.ensures.is;
       line = c.refused_commit.ensures.line;
       tidy = c.refused_commit.ensures.tidy;
@@ -26,7 +25,6 @@ returns-in-Paused g c =
     let q = put_back c.args.self.now (Paused c.in-Paused.x) (sym c.in-Paused.ensures.value) in
     record {
       used = c.refused_pause.ensures.used;
-      steady = c.refused_pause.ensures.steady;
       is = subst (λ k. IfOk c.refused_pause.result (λ _. c.refused_pause.new.self ≡ refused c.args.l.now.attempt k)) q c.refused_pause.ensures.is;
       line = c.refused_pause.ensures.line;
       tidy = c.refused_pause.ensures.tidy;
@@ -38,7 +36,6 @@ returns-in-Copying g c =
     let e : c.args.self.now.state ≡ Copying c.in-Copying.x = sym c.in-Copying.ensures.value in
     record {
       used = search rules;
-      steady = search rules;
       is = refuse_copying_is c.args.self.now c.args.l.now.attempt c.in-Copying.x c.refused-self.result e c.refused-self.ensures;
       line = still_self _;
       tidy = refuse_copying_tidy c.args.self.now c.args.l.now.attempt c.in-Copying.x c.refused-self.result e c.refused-self.ensures c.requires.tidy;
@@ -51,7 +48,6 @@ returns-in_default g c =
     let q = put_back c.args.self.now c.replace-state.result (sym v) in
     record {
       used = search rules;
-      steady = search rules;
       is = q ∙ refuse_none_is c.args.self.now c.args.l.now.attempt (λ x e. c.in_default.not-Copying x (v ∙ e)) (λ x e. c.in_default.not-Paused x (v ∙ e)) (λ x e. c.in_default.not-Committed x (v ∙ e));
       line = still_self _;
       tidy = subst⁻¹ Tidy q c.requires.tidy;

@@ -12,7 +12,6 @@ pub returns-then-x-t : goal.returns-then-x-t
 returns-then-x-t g c =
     record {
       used = search rules;
-      steady = search rules;
       is = refuse_other_is c.args.l.now.attempt c.args.x c.args.self.now c.if-x-t.true;
       line = still_self _;
       tidy = c.requires.tidy;
@@ -23,7 +22,6 @@ pub returns-then-not-x : goal.returns-then-not-x
 returns-then-not-x g c =
     record {
       used = search rules;
-      steady = search rules;
       is = refuse_away_is c.args.l.now.attempt c.args.x c.args.self.now c.if-x-t.false (not-true c.args.x.mine c.if-not-x.true);
       line = still_self _;
       tidy = tidy_to (on_state (Committed c.args.x) c.args.self.now) Away tt c.requires.tidy;
@@ -41,7 +39,6 @@ pub returns-in_err-resume : goal.returns-in_err-resume
 returns-in_err-resume g c =
     record {
       used = search rules;
-      steady = search rules;
       is = unmade c.from_residual.result _ c.from_residual.ensures.0;
       line = unmade c.from_residual.result _ c.from_residual.ensures.0;
       tidy = unmade c.from_residual.result _ c.from_residual.ensures.0;
@@ -52,7 +49,6 @@ pub returns : goal.returns
 returns g c =
     record {
       used = search rules;
-      steady = search rules;
       is = refuse_commit_is c.args.l.now.attempt c.args.x c.args.self.now c.if-x-t.false (not-false c.args.x.mine c.if-not-x.false);
       line = c.in_ok-resume.ensures.line;
       tidy = again_tidy c.args.self.now _ _ (Committed c.args.x) c.requires.tidy;

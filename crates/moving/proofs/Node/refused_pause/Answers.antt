@@ -11,7 +11,6 @@ pub returns-then-x-t : goal.returns-then-x-t
 returns-then-x-t g c =
     record {
       used = search rules;
-      steady = search rules;
       is = refuse_unpaused_is c.args.l.now.attempt c.args.x c.args.self.now c.if-x-t.true;
       line = still_self _;
       tidy = c.requires.tidy;
@@ -22,7 +21,6 @@ pub returns-in_err-resume : goal.returns-in_err-resume
 returns-in_err-resume g c =
     record {
       used = search rules;
-      steady = search rules;
       is = unmade c.from_residual.result _ c.from_residual.ensures.0;
       line = unmade c.from_residual.result _ c.from_residual.ensures.0;
       tidy = unmade c.from_residual.result _ c.from_residual.ensures.0;
@@ -33,7 +31,6 @@ pub returns : goal.returns
 returns g c =
     record {
       used = search rules;
-      steady = search rules;
       is = refuse_pause_is c.args.l.now.attempt c.args.x c.args.self.now c.if-x-t.false;
       line = c.in_ok-resume.ensures.line;
       tidy = again_tidy c.args.self.now _ _ (Paused c.args.x) c.requires.tidy;

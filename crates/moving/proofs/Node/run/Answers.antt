@@ -21,7 +21,6 @@ returns-in_err-wants g c =
     let e = c.from_residual.ensures.0 in
     record {
       used = search rules;
-      steady = search rules;
       tidy = unmade _ _ e;
       is = unmade _ _ e;
       makes = unmade _ _ e;
@@ -33,7 +32,6 @@ returns-then-not-branch g c =
     let q = c.in_ok-wants.ensures in
     record {
       used = search rules;
-      steady = search rules;
       tidy = ran_tidy c.args.self.now c.wants.new.self c.args.x c.in_ok-wants.field-0 q.is c.requires.tidy;
       is = search rules;
       makes = search rules;
@@ -56,7 +54,6 @@ returns-in_err-attempt g c =
     let e = c.from_residual-in_err-attempt.ensures.0 in
     record {
       used = search rules;
-      steady = search rules;
       tidy = unmade _ _ e;
       is = unmade _ _ e;
       makes = unmade _ _ e;
@@ -90,7 +87,6 @@ returns-in_err-go_on g c =
     let e = c.from_residual-in_err-go_on.ensures.0 in
     record {
       used = search rules;
-      steady = search rules;
       tidy = unmade _ _ e;
       is = unmade _ _ e;
       makes = unmade _ _ e;
@@ -108,7 +104,6 @@ returns g c =
     let k = still_then q.line r.line in
     record {
       used = search rules;
-      steady = search rules;
       tidy = run_tidy c.args.self.now c.wants.new.self c.attempt.new.self c.args.x c.in_ok-wants.field-0 c.in_ok-attempt.field-0.attempt c.go_on.new.self q.is r.is r.new.2 c.in_ok-go_on.ensures.sound c.requires.tidy;
       is = begins c.in_ok-attempt.field-0 (sym q.value ∙ c.if-not-branch.false) (record { above = p.above; least = p.least; own = p.own; empty = p.empty; base = p.base; all = p.all; cursor = p.cursor; sent = p.sent; turns = p.turns; prev = p.prev })
           (record { after = c.go_on.new.self; goes = subst (λ d. GoneOn (g.P.Place.world c.args.w.now).pages (c.args.most - 2) d c.go_on.new.self) c.tick-transfer.ensures (subst (λ p. GoneOn p (c.args.most - 2) y c.go_on.new.self) (r.used.pages ∙ q.used.pages) c.in_ok-go_on.ensures.is); node = ap (on_state (Copying c.go_on.new.self)) (r.is ∙ ap (λ (k : Node). on_top c.in_ok-attempt.field-0.attempt k.state k) q.is) });

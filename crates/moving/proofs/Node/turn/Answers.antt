@@ -16,7 +16,7 @@ use Rattle.moving.proofs.Node.turn.Goals as goal
 pub returns-in_err-left : goal.returns-in_err-left
 returns-in_err-left g c =
     let e = c.from_residual.ensures.0 in
-    record { only = search rules; rested = unmade _ _ e; is = unmade _ _ e; makes = unmade _ _ e; counts = fell_counts c.from_residual.result e (record { pages = c.in_err-left.ensures.used.pages; fall = c.in_err-left.ensures.used.fall; calm = c.in_err-left.ensures.steady.calm; still = c.in_err-left.ensures.steady.still }); keeps = ends_call 64 _ c.from_residual.result e (begin [] c.args.self.now (g.P.Place.world c.args.w.now) c.requires.up) c.in_err-left.ensures.keeps (omega arith) }
+    record { only = search rules; rested = unmade _ _ e; is = unmade _ _ e; makes = unmade _ _ e; counts = fell_counts c.from_residual.result e (record { pages = c.in_err-left.ensures.used.pages; fall = c.in_err-left.ensures.used.fall; calm = c.in_err-left.ensures.used.calm; still = c.in_err-left.ensures.used.still }); keeps = ends_call 64 _ c.from_residual.result e (begin [] c.args.self.now (g.P.Place.world c.args.w.now) c.requires.up) c.in_err-left.ensures.keeps (omega arith) }
 
 pub hear-requires : goal.hear-requires
 hear-requires g c =
@@ -31,7 +31,7 @@ returns-in_err-left-2 g c =
     let k = c.in_ok-left.ensures in
     let s = then_call (begin [] n w c.requires.up) k.used.fell k.keeps in
     let e = c.from_residual-in_err-left-2.ensures.0 in
-    record { only = search rules; rested = unmade _ _ e; is = unmade _ _ e; makes = unmade _ _ e; counts = fell_counts c.from_residual-in_err-left-2.result e (record { pages = c.in_err-left-2.ensures.used.pages ∙ k.used.pages; fall = c.in_err-left-2.ensures.used.fall; calm = c.in_err-left-2.ensures.steady.calm ∙ k.steady.calm; still = c.in_err-left-2.ensures.steady.still ∙ k.steady.still }); keeps = ends_call 64 _ c.from_residual-in_err-left-2.result e s c.in_err-left-2.ensures.keeps (omega arith) }
+    record { only = search rules; rested = unmade _ _ e; is = unmade _ _ e; makes = unmade _ _ e; counts = fell_counts c.from_residual-in_err-left-2.result e (record { pages = c.in_err-left-2.ensures.used.pages ∙ k.used.pages; fall = c.in_err-left-2.ensures.used.fall; calm = c.in_err-left-2.ensures.used.calm ∙ k.used.calm; still = c.in_err-left-2.ensures.used.still ∙ k.used.still }); keeps = ends_call 64 _ c.from_residual-in_err-left-2.result e s c.in_err-left-2.ensures.keeps (omega arith) }
 
 pub act-requires : goal.act-requires
 act-requires g c =
@@ -59,7 +59,7 @@ returns-in_err-act g c =
     let l = c.in_ok-left-2.ensures in
     let t = then_call s l.used.fell l.keeps in
     let e = c.from_residual-in_err-act.ensures.0 in
-    record { only = search rules; rested = unmade _ _ e; is = unmade _ _ e; makes = unmade _ _ e; counts = fell_counts c.from_residual-in_err-act.result e (record { pages = c.in_err-act.ensures.used.pages ∙ l.used.pages ∙ k.used.pages; fall = c.in_err-act.ensures.used.fall; calm = c.in_err-act.ensures.steady.calm ∙ l.steady.calm ∙ k.steady.calm; still = c.in_err-act.ensures.steady.still ∙ l.steady.still ∙ k.steady.still }); keeps = ends_call 64 _ c.from_residual-in_err-act.result e t c.in_err-act.ensures.keeps (omega arith) }
+    record { only = search rules; rested = unmade _ _ e; is = unmade _ _ e; makes = unmade _ _ e; counts = fell_counts c.from_residual-in_err-act.result e (record { pages = c.in_err-act.ensures.used.pages ∙ l.used.pages ∙ k.used.pages; fall = c.in_err-act.ensures.used.fall; calm = c.in_err-act.ensures.used.calm ∙ l.used.calm ∙ k.used.calm; still = c.in_err-act.ensures.used.still ∙ l.used.still ∙ k.used.still }); keeps = ends_call 64 _ c.from_residual-in_err-act.result e t c.in_err-act.ensures.keeps (omega arith) }
 
 pub reply-requires : goal.reply-requires
 reply-requires g c =
@@ -84,7 +84,7 @@ returns-in_err-reply g c =
     let a = c.in_ok-act.ensures in
     let u = then_call t a.used.fell a.keeps in
     let e = c.from_residual-in_err-reply.ensures.0 in
-    record { only = search rules; rested = unmade _ _ e; is = unmade _ _ e; makes = unmade _ _ e; counts = fell_counts c.from_residual-in_err-reply.result e (record { pages = c.in_err-reply.ensures.used.pages ∙ a.used.pages ∙ l.used.pages ∙ k.used.pages; fall = c.in_err-reply.ensures.used.fall; calm = c.in_err-reply.ensures.steady.calm ∙ a.steady.calm ∙ l.steady.calm ∙ k.steady.calm; still = c.in_err-reply.ensures.steady.still ∙ a.steady.still ∙ l.steady.still ∙ k.steady.still }); keeps = ends_call 64 _ c.from_residual-in_err-reply.result e u c.in_err-reply.ensures.keeps (omega arith) }
+    record { only = search rules; rested = unmade _ _ e; is = unmade _ _ e; makes = unmade _ _ e; counts = fell_counts c.from_residual-in_err-reply.result e (record { pages = c.in_err-reply.ensures.used.pages ∙ a.used.pages ∙ l.used.pages ∙ k.used.pages; fall = c.in_err-reply.ensures.used.fall; calm = c.in_err-reply.ensures.used.calm ∙ a.used.calm ∙ l.used.calm ∙ k.used.calm; still = c.in_err-reply.ensures.used.still ∙ a.used.still ∙ l.used.still ∙ k.used.still }); keeps = ends_call 64 _ c.from_residual-in_err-reply.result e u c.in_err-reply.ensures.keeps (omega arith) }
 
 pub returns : goal.returns
 returns g c =
@@ -102,7 +102,7 @@ returns g c =
     record {
       only = search rules;
       rested = record { windowed = subst (λ m. Windowed m.state) (sym y.is) a.tidy.windowed; silent = ap (λ m. m.asked) y.is };
-      counts = record { pages = y.used.pages ∙ a.used.pages ∙ l.used.pages ∙ k.used.pages; fall = refl; calm = y.steady.calm ∙ a.steady.calm ∙ l.steady.calm ∙ k.steady.calm; still = y.steady.still ∙ a.steady.still ∙ l.steady.still ∙ k.steady.still };
+      counts = record { pages = y.used.pages ∙ a.used.pages ∙ l.used.pages ∙ k.used.pages; fall = refl; calm = y.used.calm ∙ a.used.calm ∙ l.used.calm ∙ k.used.calm; still = y.used.still ∙ a.used.still ∙ l.used.still ∙ k.used.still };
       is = record {
         heard = c.hear.new.self;
         acted = c.act.new.self;

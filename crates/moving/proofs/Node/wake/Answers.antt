@@ -14,7 +14,6 @@ returns-then-self g c =
     record {
       line = still_self _;
       used = search rules;
-      steady = search rules;
       full = λ a. refl;
       rest = search rules;
       idle = λ lt. absurd (omega arith);
@@ -29,7 +28,6 @@ returns-in_err-took g c =
     record {
       line = unmade _ _ e;
       used = search rules;
-      steady = search rules;
       full = unmade _ _ e;
       rest = unmade _ _ e;
       idle = unmade _ _ e;
@@ -44,7 +42,6 @@ returns-in_err-top g c =
     record {
       line = unmade _ _ e;
       used = search rules;
-      steady = search rules;
       full = unmade _ _ e;
       rest = unmade _ _ e;
       idle = unmade _ _ e;
@@ -59,7 +56,6 @@ returns-in_err-committed g c =
     record {
       line = unmade _ _ e;
       used = search rules;
-      steady = search rules;
       full = unmade _ _ e;
       rest = unmade _ _ e;
       idle = unmade _ _ e;
@@ -81,7 +77,6 @@ returns-then-not-committed-top g c =
     record {
       line = still_then (still_then c.in_ok-took.ensures.line c.in_ok-top.ensures.line) c.in_ok-committed.ensures.line;
       used = search rules;
-      steady = search rules;
       full = λ a. absurd (both_ways n.awake c.if-self.false a);
       rest = search rules;
       idle = λ _. ap moving asleep;
@@ -106,7 +101,6 @@ returns g c =
     record {
       line = still_then (still_then c.in_ok-took.ensures.line c.in_ok-top.ensures.line) c.in_ok-committed.ensures.line;
       used = search rules;
-      steady = search rules;
       full = λ a. absurd (both_ways n.awake c.if-self.false a);
       rest = search rules;
       idle = λ _. refl;
