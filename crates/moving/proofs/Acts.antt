@@ -101,11 +101,12 @@ give_up {i = i} {m = m} {x = x} {o = o} {w = w} n z d e f h =
 
 -- RUN
 pub ran_tidy : (n a : Node) (x : Run) (k : Bool) → a ≡ on_state (Running (record { wanted = k })) n → Tidy (on_state (Running x) n) → Tidy a
-ran_tidy n a x k e h = subst⁻¹ Tidy e (record { windowed = tt; asked = h.asked })
+ran_tidy n a x k e h = subst⁻¹ Tidy e (record { awake = h.awake; windowed = tt; asked = h.asked })
 
 pub run_tidy : (n a b : Node) (x : Run) (k : Bool) (t : ℕ) (d : Transfer) → a ≡ on_state (Running (record { wanted = k })) n → b ≡ on_top t a.state a → a.top < t → Sound d.window → Tidy (on_state (Running x) n) → Tidy (on_state (Copying d) b)
 run_tidy n a b x k t d e f l s h =
     record {
+      awake = ap (λ (n : Node). n.awake) f ∙ ap (λ (n : Node). n.awake) e ∙ h.awake;
       windowed = s;
       asked = subst⁻¹ (λ b. AskedWell (on_state (Copying d) b)) f (λ u g. let q = (ran_tidy n a x k e h).asked u g in let z = q.2 in (q.0, q.1, omega arith));
     }

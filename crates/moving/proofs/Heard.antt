@@ -32,11 +32,11 @@ use Rattle.moving.proofs.Ways.{SoFar, begin, got, gotten}
 
 -- asks add up
 pub used_more : {a : ℕ} {w v : World} {b : Bool} (c : ℕ) → Used a w b v → a ≤ c → Used c w b v
-used_more c s p = record { left = omega arith; fell = s.fell; pages = s.pages; fall = s.fall }
+used_more c s p = record { left = omega arith; fell = s.fell; pages = s.pages; fall = s.fall; calm = s.calm; still = s.still }
 
 pub used_err : {A : Type 0} {a b : ℕ} {w v x : World} (c : ℕ) (r : Result A Down) → is_err r ≡ true → Used a w true v → Used b v false x → a + b ≤ c → Used c w (is_ok r) x
 used_err c (Ok y) e s t p = no e refl
-used_err c (Err y) e s t p = record { left = omega arith; fell = t.fell; pages = t.pages ∙ s.pages; fall = t.fall }
+used_err c (Err y) e s t p = record { left = omega arith; fell = t.fell; pages = t.pages ∙ s.pages; fall = t.fall; calm = t.calm ∙ s.calm; still = t.still ∙ s.still }
 
 some_is : {a b : ℕ} → Some a ≡ Some b → a ≡ b
 some_is e = cc
@@ -57,8 +57,8 @@ reask t h =
 pub reask_whole : {i m : ℕ} {x : List (List ℕ)} {n o : Node} {w : World} (t : ℕ) → Whole i m x n o w → Whole i m x (asked_for t n) o w
 reask_whole t h = alone h (reask t h.both)
 
-pub asked_tidy : (n : Node) (t : ℕ) → Windowed n.state → t % 2 ≡ 1 - n.me → 1 ≤ t → t ≤ n.top → Tidy (asked_for t n)
-asked_tidy n t w a b c = record { windowed = w; asked = λ s e. subst (λ s. (s % 2 ≡ 1 - n.me) × (1 ≤ s) × (s ≤ n.top)) (some_is e) (a, b, c) }
+pub asked_tidy : (n : Node) (t : ℕ) → n.awake ≡ true → Windowed n.state → t % 2 ≡ 1 - n.me → 1 ≤ t → t ≤ n.top → Tidy (asked_for t n)
+asked_tidy n t aw w a b c = record { awake = aw; windowed = w; asked = λ s e. subst (λ s. (s % 2 ≡ 1 - n.me) × (1 ≤ s) × (s ≤ n.top)) (some_is e) (a, b, c) }
 
 -- PROBE
 -- a host that begins no attempt of the other has the guest
@@ -91,11 +91,11 @@ probe_top {n = n} {w = w} l k aw h e = go (ltb n.top l.attempt) refl e
         omega arith
     go false q f = ltb-false n.top l.attempt q
 
-pub probe_none_tidy : {i m : ℕ} {n o : Node} {w : World} (l : Letter) (b : Bool) → b ≡ begins n.state → (ltb n.top l.attempt && b) ≡ false → l.kind ≡ Probe → n.awake ≡ true → Whole i m (spelt l ∷ []) n o w → Tidy n → Tidy (asked_for l.attempt n)
-probe_none_tidy {n = n} l b q e k aw h t =
+pub probe_none_tidy : {i m : ℕ} {n o : Node} {w : World} (l : Letter) (b : Bool) → b ≡ begins n.state → (ltb n.top l.attempt && b) ≡ false → l.kind ≡ Probe → Whole i m (spelt l ∷ []) n o w → Tidy n → Tidy (asked_for l.attempt n)
+probe_none_tidy {n = n} l b q e k h t =
     let f : (ltb n.top l.attempt && begins n.state) ≡ false = subst (λ b. (ltb n.top l.attempt && b) ≡ false) q e in
     let w = probe_own l k h in
-    asked_tidy n l.attempt t.windowed w.0 w.1 (probe_top l k aw h f)
+    asked_tidy n l.attempt t.awake t.windowed w.0 w.1 (probe_top l k t.awake h f)
 
 pub probe_none_is : (n : Node) (t : ℕ) (b : Bool) → b ≡ begins n.state → (ltb n.top t && b) ≡ false → asked_for t n ≡ probed t n
 probe_none_is n t b q e =
@@ -105,10 +105,10 @@ pub probe_is : (n : Node) (t : ℕ) (b : Bool) → b ≡ begins n.state → (ltb
 probe_is n t b q e =
     ap (λ b. asked_for t (cond b (on_top t (Receiving (record { attempt = t; next = 0 })) n) n)) (sym e ∙ ap (λ b. ltb n.top t && b) q)
 
-pub probe_tidy : {i m : ℕ} {n o : Node} {w : World} (l : Letter) → l.kind ≡ Probe → Whole i m (spelt l ∷ []) n o w → Tidy (asked_for l.attempt (on_top l.attempt (Receiving (record { attempt = l.attempt; next = 0 })) n))
-probe_tidy {n = n} l k h =
+pub probe_tidy : {i m : ℕ} {n o : Node} {w : World} (l : Letter) → l.kind ≡ Probe → n.awake ≡ true → Whole i m (spelt l ∷ []) n o w → Tidy (asked_for l.attempt (on_top l.attempt (Receiving (record { attempt = l.attempt; next = 0 })) n))
+probe_tidy {n = n} l k aw h =
     let w = probe_own l k h in
-    asked_tidy (on_top l.attempt (Receiving (record { attempt = l.attempt; next = 0 })) n) l.attempt tt w.0 w.1 (omega arith)
+    asked_tidy (on_top l.attempt (Receiving (record { attempt = l.attempt; next = 0 })) n) l.attempt aw tt w.0 w.1 (omega arith)
 
 pub probe_whole : {i m : ℕ} {n o : Node} {w : World} (l : Letter) (b : Bool) → (ltb n.top l.attempt && b) ≡ true → l.kind ≡ Probe → n.awake ≡ true → Whole i m (spelt l ∷ []) n o w → Whole i m (spelt l ∷ []) (asked_for l.attempt (on_top l.attempt (Receiving (record { attempt = l.attempt; next = 0 })) n)) o (kept 1 l.attempt w)
 probe_whole {n = n} l b e k aw h =
@@ -166,11 +166,11 @@ commit_own l k aw h =
     let t = (h.both.ours.cells.copies aw).1 in
     (f.own ∙ ap (λ z. 1 - z) (sym h.both.ours.me), f.some, omega arith)
 
-pub commit_none_tidy : {i m : ℕ} {n o : Node} {w : World} (l : Letter) → l.kind ≡ Commit → n.awake ≡ true → Whole i m (spelt l ∷ []) n o w → Tidy n → Tidy (asked_for l.attempt n)
-commit_none_tidy {n = n} l k aw h t = let w = commit_own l k aw h in asked_tidy n l.attempt t.windowed w.0 w.1 w.2
+pub commit_none_tidy : {i m : ℕ} {n o : Node} {w : World} (l : Letter) → l.kind ≡ Commit → Whole i m (spelt l ∷ []) n o w → Tidy n → Tidy (asked_for l.attempt n)
+commit_none_tidy {n = n} l k h t = let w = commit_own l k t.awake h in asked_tidy n l.attempt t.awake t.windowed w.0 w.1 w.2
 
 pub commit_tidy : {i m : ℕ} {n o : Node} {w : World} (l : Letter) → l.kind ≡ Commit → n.awake ≡ true → Whole i m (spelt l ∷ []) n o w → Tidy (asked_for l.attempt (runs_again l.attempt false n))
-commit_tidy {n = n} l k aw h = let w = commit_own l k aw h in asked_tidy (runs_again l.attempt false n) l.attempt tt w.0 w.1 w.2
+commit_tidy {n = n} l k aw h = let w = commit_own l k aw h in asked_tidy (runs_again l.attempt false n) l.attempt aw tt w.0 w.1 w.2
 
 pub commit_whole : {i m : ℕ} {n o : Node} {w : World} (l : Letter) (r : Reception) (t : ℕ) → t ≡ l.attempt → n.state ≡ Receiving r → r.attempt ≡ l.attempt → l.kind ≡ Commit → Whole i m (spelt l ∷ []) n o w → MayResume w × Whole i m (spelt l ∷ []) (asked_for l.attempt (runs_again l.attempt false n)) o (resumed t w)
 commit_whole {i = i} {m = m} {n = n} {o = o} {w = w} l r t e s a k h =
@@ -196,7 +196,7 @@ commit_is n t x s e = ap (λ b. asked_for t (cond b (runs_again t false n) n)) (
 
 -- the state changes, and it has no transfer
 pub tidy_to : (n : Node) (s : State) → Windowed s → Tidy n → Tidy (on_state s n)
-tidy_to n s w t = record { windowed = w; asked = t.asked }
+tidy_to n s w t = record { awake = t.awake; windowed = w; asked = t.asked }
 
 -- REFUSE
 pub refused_paused_whole : {i m : ℕ} {x : List (List ℕ)} {n o : Node} {w : World} (z : Pause) → n.state ≡ Paused z → n.awake ≡ true → Whole i m x n o w → MayResume w × Whole i m x (runs_again z.transfer.attempt true n) o (resumed z.transfer.attempt w)
@@ -245,7 +245,7 @@ refuse_pause_is t x n f = ap (λ b. repulse t x b n) (sym (eq-eqb x.transfer.att
 
 -- what runs again has no transfer
 pub again_tidy : (n : Node) (t : ℕ) (b : Bool) (s : State) → Tidy (on_state s n) → Tidy (runs_again t b n)
-again_tidy n t b s h = record { windowed = tt; asked = h.asked }
+again_tidy n t b s h = record { awake = h.awake; windowed = tt; asked = h.asked }
 
 -- in Copying
 pub refuse_copying_whole : {i m : ℕ} {x : List (List ℕ)} {n o : Node} {w : World} (t : ℕ) (c : Transfer) (s : State) → n.state ≡ Copying c → s ≡ refused_in t (Copying c) → n.awake ≡ true → Whole i m x n o w → Whole i m x (on_state s n) o w

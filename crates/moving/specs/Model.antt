@@ -193,8 +193,9 @@ Windowed (Committed x) = Unit {0}
 abbrev pub AskedWell : Node → Type 0
 AskedWell n = (t : ℕ) → n.asked ≡ Some t → (t % 2 ≡ 1 - n.me) × (1 ≤ t) × (t ≤ n.top)
 
--- What holds of a node alone.
+-- What holds of a node alone in its turn, once it has read its cells.
 pub record Tidy (n : Node) : Type 0 where
+  pub awake : n.awake ≡ true
   pub windowed : Windowed n.state
   pub asked : AskedWell n
 

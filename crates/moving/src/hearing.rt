@@ -2,7 +2,7 @@
 ghost use Rattle.std.specs.Prelude.{◌≡◌, ℕ, ◌+◌, ◌-◌, ◌*◌, ◌<◌, ◌≤◌, Bool, true, false, List, [], ◌∷◌, length, is_ok, IfOk, Some, None, OnOk};
 ghost use Rattle.letter.specs.Words.{spelt};
 ghost use Rattle.pageset.specs.Count.{bit};
-ghost use Rattle.moving.specs.Used.{Soon, Used, Steady};
+ghost use Rattle.moving.specs.Used.{Soon, Used};
 ghost use Rattle.moving.specs.Calm.{row_here, Still, Hearing, HeardAll};
 ghost use Rattle.moving.specs.Model.{Tidy, moving, begins, probed, received, taken, refused, refused_in, acked, acked_in, gone_in, on_state, heeded};
 ghost use Rattle.moving.specs.Acted.{Heard, OneHeard};
@@ -29,15 +29,12 @@ impl Node {
     // The other host asks whether this one is with it in its attempt.
     fn probed<P: Place>(&mut self, w: &mut P, l: &Letter) -> Result<(), Down>
         requires soon { Soon 1 (P.world w.old) }
-        requires awake { self.old.awake ≡ true }
         requires tidy { Tidy self.old }
         requires ready { Ready 0 (spelt l.now ∷ []) self.old (P.world w.old) }
         requires kind { l.now.kind ≡ Kind.Probe }
         ensures used { Used 1 (P.world w.old) (is_ok result) (P.world w.new) }
-        ensures steady { Steady (P.world w.old) (P.world w.new) }
         ensures is { OnOk result (self.new ≡ probed l.now.attempt self.old) }
         ensures line { OnOk result (Still (P.world w.old) (P.world w.new)) }
-        ensures awake { OnOk result (self.new.awake ≡ true) }
         ensures tidy { OnOk result (Tidy self.new) }
         ensures keeps { Keeps 0 (spelt l.now ∷ []) self.old (P.world w.old) result (λ _. self.new) (P.world w.new) }
     {
@@ -58,15 +55,12 @@ impl Node {
     // A page: it is put if it is the next of the attempt that is received.
     fn page_came<P: Place>(&mut self, w: &mut P, l: &Letter) -> Result<(), Down>
         requires soon { Soon 1 (P.world w.old) }
-        requires awake { self.old.awake ≡ true }
         requires tidy { Tidy self.old }
         requires ready { Ready 0 (spelt l.now ∷ []) self.old (P.world w.old) }
         requires kind { l.now.kind ≡ Kind.Page }
         ensures used { Used 1 (P.world w.old) (is_ok result) (P.world w.new) }
-        ensures steady { Steady (P.world w.old) (P.world w.new) }
         ensures is { OnOk result (self.new ≡ received (P.world w.old).pages l.now self.old) }
         ensures line { OnOk result (Still (P.world w.old) (P.world w.new)) }
-        ensures awake { OnOk result (self.new.awake ≡ true) }
         ensures tidy { OnOk result (Tidy self.new) }
         ensures keeps { Keeps 0 (spelt l.now ∷ []) self.old (P.world w.old) result (λ _. self.new) (P.world w.new) }
     {
@@ -88,15 +82,12 @@ impl Node {
     // The other host has committed its attempt: all of its pages are put here, so the guest goes on here.
     fn committed<P: Place>(&mut self, w: &mut P, l: &Letter) -> Result<(), Down>
         requires soon { Soon 1 (P.world w.old) }
-        requires awake { self.old.awake ≡ true }
         requires tidy { Tidy self.old }
         requires ready { Ready 0 (spelt l.now ∷ []) self.old (P.world w.old) }
         requires kind { l.now.kind ≡ Kind.Commit }
         ensures used { Used 1 (P.world w.old) (is_ok result) (P.world w.new) }
-        ensures steady { Steady (P.world w.old) (P.world w.new) }
         ensures is { OnOk result (self.new ≡ taken l.now.attempt self.old) }
         ensures line { OnOk result (Still (P.world w.old) (P.world w.new)) }
-        ensures awake { OnOk result (self.new.awake ≡ true) }
         ensures tidy { OnOk result (Tidy self.new) }
         ensures keeps { Keeps 0 (spelt l.now ∷ []) self.old (P.world w.old) result (λ _. self.new) (P.world w.new) }
     {
@@ -124,15 +115,12 @@ impl Node {
     // The attempt that is committed here is refused: the guest goes on here, unless this host has fallen since.
     fn refused_commit<P: Place>(&mut self, w: &mut P, l: &Letter, x: Committed) -> Result<(), Down>
         requires soon { Soon 1 (P.world w.old) }
-        requires awake { self.old.awake ≡ true }
         requires tidy { Tidy (on_state (State.Committed x) self.old) }
         requires ready { Ready 0 (spelt l.now ∷ []) (on_state (State.Committed x) self.old) (P.world w.old) }
         requires kind { l.now.kind ≡ Kind.Refuse }
         ensures used { Used 1 (P.world w.old) (is_ok result) (P.world w.new) }
-        ensures steady { Steady (P.world w.old) (P.world w.new) }
         ensures is { OnOk result (self.new ≡ refused l.now.attempt (on_state (State.Committed x) self.old)) }
         ensures line { OnOk result (Still (P.world w.old) (P.world w.new)) }
-        ensures awake { OnOk result (self.new.awake ≡ true) }
         ensures tidy { OnOk result (Tidy self.new) }
         ensures keeps { Keeps 0 (spelt l.now ∷ []) (on_state (State.Committed x) self.old) (P.world w.old) result (λ _. self.new) (P.world w.new) }
     {
@@ -154,14 +142,11 @@ impl Node {
     // The attempt for which the guest was stopped here is refused: it goes on here.
     fn refused_pause<P: Place>(&mut self, w: &mut P, l: &Letter, x: Paused) -> Result<(), Down>
         requires soon { Soon 1 (P.world w.old) }
-        requires awake { self.old.awake ≡ true }
         requires tidy { Tidy (on_state (State.Paused x) self.old) }
         requires ready { Ready 0 (spelt l.now ∷ []) (on_state (State.Paused x) self.old) (P.world w.old) }
         ensures used { Used 1 (P.world w.old) (is_ok result) (P.world w.new) }
-        ensures steady { Steady (P.world w.old) (P.world w.new) }
         ensures is { OnOk result (self.new ≡ refused l.now.attempt (on_state (State.Paused x) self.old)) }
         ensures line { OnOk result (Still (P.world w.old) (P.world w.new)) }
-        ensures awake { OnOk result (self.new.awake ≡ true) }
         ensures tidy { OnOk result (Tidy self.new) }
         ensures keeps { Keeps 0 (spelt l.now ∷ []) (on_state (State.Paused x) self.old) (P.world w.old) result (λ _. self.new) (P.world w.new) }
     {
@@ -179,15 +164,12 @@ impl Node {
     // The other host never will take the attempt.
     fn refused<P: Place>(&mut self, w: &mut P, l: &Letter) -> Result<(), Down>
         requires soon { Soon 1 (P.world w.old) }
-        requires awake { self.old.awake ≡ true }
         requires tidy { Tidy self.old }
         requires ready { Ready 0 (spelt l.now ∷ []) self.old (P.world w.old) }
         requires kind { l.now.kind ≡ Kind.Refuse }
         ensures used { Used 1 (P.world w.old) (is_ok result) (P.world w.new) }
-        ensures steady { Steady (P.world w.old) (P.world w.new) }
         ensures is { OnOk result (self.new ≡ refused l.now.attempt self.old) }
         ensures line { OnOk result (Still (P.world w.old) (P.world w.new)) }
-        ensures awake { OnOk result (self.new.awake ≡ true) }
         ensures tidy { OnOk result (Tidy self.new) }
         ensures keeps { Keeps 0 (spelt l.now ∷ []) self.old (P.world w.old) result (λ _. self.new) (P.world w.new) }
     {
@@ -209,15 +191,12 @@ impl Node {
     // The other host has put all places of the attempt below that one.
     fn acknowledged<P: Place>(&mut self, w: &mut P, l: &Letter) -> Result<(), Down>
         requires soon { Soon 1 (P.world w.old) }
-        requires awake { self.old.awake ≡ true }
         requires tidy { Tidy self.old }
         requires ready { Ready 0 (spelt l.now ∷ []) self.old (P.world w.old) }
         requires kind { l.now.kind ≡ Kind.Ack }
         ensures used { Used 1 (P.world w.old) (is_ok result) (P.world w.new) }
-        ensures steady { Steady (P.world w.old) (P.world w.new) }
         ensures is { OnOk result (self.new ≡ on_state (acked_in l.now.attempt l.now.place self.old.state) self.old) }
         ensures line { OnOk result (Still (P.world w.old) (P.world w.new)) }
-        ensures awake { OnOk result (self.new.awake ≡ true) }
         ensures tidy { OnOk result (Tidy self.new) }
         ensures keeps { Keeps 0 (spelt l.now ∷ []) self.old (P.world w.old) result (λ _. self.new) (P.world w.new) }
     {
@@ -229,15 +208,12 @@ impl Node {
     // The other host has taken the attempt.
     fn gone<P: Place>(&mut self, w: &mut P, l: &Letter) -> Result<(), Down>
         requires soon { Soon 1 (P.world w.old) }
-        requires awake { self.old.awake ≡ true }
         requires tidy { Tidy self.old }
         requires ready { Ready 0 (spelt l.now ∷ []) self.old (P.world w.old) }
         requires kind { l.now.kind ≡ Kind.Taken }
         ensures used { Used 1 (P.world w.old) (is_ok result) (P.world w.new) }
-        ensures steady { Steady (P.world w.old) (P.world w.new) }
         ensures is { OnOk result (self.new ≡ on_state (gone_in l.now.attempt self.old.state) self.old) }
         ensures line { OnOk result (Still (P.world w.old) (P.world w.new)) }
-        ensures awake { OnOk result (self.new.awake ≡ true) }
         ensures tidy { OnOk result (Tidy self.new) }
         ensures keeps { Keeps 0 (spelt l.now ∷ []) self.old (P.world w.old) result (λ _. self.new) (P.world w.new) }
     {
@@ -253,14 +229,11 @@ impl Node {
     // A letter has come.
     fn heed<P: Place>(&mut self, w: &mut P, l: &Letter) -> Result<(), Down>
         requires soon { Soon 1 (P.world w.old) }
-        requires awake { self.old.awake ≡ true }
         requires tidy { Tidy self.old }
         requires ready { Ready 0 (spelt l.now ∷ []) self.old (P.world w.old) }
         ensures used { Used 1 (P.world w.old) (is_ok result) (P.world w.new) }
-        ensures steady { Steady (P.world w.old) (P.world w.new) }
         ensures is { OnOk result (self.new ≡ heeded (P.world w.old).pages l.now self.old) }
         ensures line { OnOk result (Still (P.world w.old) (P.world w.new)) }
-        ensures awake { OnOk result (self.new.awake ≡ true) }
         ensures tidy { OnOk result (Tidy self.new) }
         ensures keeps { Keeps 0 (spelt l.now ∷ []) self.old (P.world w.old) result (λ _. self.new) (P.world w.new) }
     {
@@ -277,13 +250,10 @@ impl Node {
     // The next letter: whether one has come.
     fn hear_one<P: Place>(&mut self, w: &mut P) -> Result<bool, Down>
         requires soon { Soon 2 (P.world w.old) }
-        requires awake { self.old.awake ≡ true }
         requires tidy { Tidy self.old }
         requires ready { Ready 0 [] self.old (P.world w.old) }
         ensures used { Used 2 (P.world w.old) (is_ok result) (P.world w.new) }
-        ensures steady { Steady (P.world w.old) (P.world w.new) }
         ensures one { IfOk result (λ b. (P.world w.old).left ≤ (P.world w.new).left + bit b + 1) }
-        ensures awake { OnOk result (self.new.awake ≡ true) }
         ensures tidy { OnOk result (Tidy self.new) }
         ensures idle { OnOk result (moving self.old.state ≡ None → moving self.new.state ≡ None) }
         ensures is { IfOk result (λ b. OneHeard (P.world w.old).pages b self.old self.new) }
@@ -306,13 +276,10 @@ impl Node {
     pub fn hear<P: Place>(&mut self, w: &mut P, most: u32) -> Result<u32, Down>
         requires soon { Soon most (P.world w.old) }
         requires enough { 128 ≤ most }
-        requires awake { self.old.awake ≡ true }
         requires tidy { Tidy self.old }
         requires ready { Ready 0 [] self.old (P.world w.old) }
         ensures used { Used 128 (P.world w.old) (is_ok result) (P.world w.new) }
-        ensures steady { Steady (P.world w.old) (P.world w.new) }
         ensures rest { IfOk result (λ m. (m ≤ (P.world w.new).left) × (most ≤ m + 128)) }
-        ensures awake { OnOk result (self.new.awake ≡ true) }
         ensures tidy { OnOk result (Tidy self.new) }
         ensures idle { OnOk result (moving self.old.state ≡ None → moving self.new.state ≡ None) }
         ensures is { OnOk result (Heard (P.world w.old).pages self.old self.new) }

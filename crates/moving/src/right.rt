@@ -1,7 +1,7 @@
 // The right to resume the guest here: a value that can't be copied, so it is used once. That it's made only when it may be is in `resume`'s contract.
 ghost use Rattle.std.specs.Prelude.{◌≡◌, ℕ, is_ok, IfOk, OnOk};
 ghost use Rattle.moving.specs.Hosts.{Does, MayStop, MayResume, kept, stopped, resumed};
-ghost use Rattle.moving.specs.Used.{Soon, Used, Steady};
+ghost use Rattle.moving.specs.Used.{Soon, Used};
 ghost use Rattle.moving.specs.Calm.{Offline, Still};
 
 use super::state::{Committed, Receiving};
@@ -18,7 +18,6 @@ impl Right {
         requires soon { Soon 1 (P.world w.old) }
         requires may { MayStop (P.world w.old) }
         ensures used { Used 1 (P.world w.old) (is_ok result) (P.world w.new) }
-        ensures steady { Steady (P.world w.old) (P.world w.new) }
         ensures does { Does (P.world w.old) (stopped (P.world w.old)) (is_ok result) (P.world w.new) }
         ensures line { OnOk result (Offline (P.world w.old) (P.world w.new)) }
         ensures right { IfOk result (λ x. x.attempt ≡ attempt) }
@@ -45,7 +44,6 @@ impl Right {
     pub fn commit<P: Place>(self, w: &mut P) -> Result<(), Down>
         requires soon { Soon 1 (P.world w.old) }
         ensures used { Used 1 (P.world w.old) (is_ok result) (P.world w.new) }
-        ensures steady { Steady (P.world w.old) (P.world w.new) }
         ensures does { Does (P.world w.old) (kept 2 self.attempt (P.world w.old)) (is_ok result) (P.world w.new) }
         ensures line { OnOk result (Still (P.world w.old) (P.world w.new)) }
     {
@@ -57,7 +55,6 @@ impl Right {
         requires soon { Soon 1 (P.world w.old) }
         requires may { MayResume (P.world w.old) }
         ensures used { Used 1 (P.world w.old) (is_ok result) (P.world w.new) }
-        ensures steady { Steady (P.world w.old) (P.world w.new) }
         ensures does { Does (P.world w.old) (resumed self.attempt (P.world w.old)) (is_ok result) (P.world w.new) }
         ensures line { OnOk result (Still (P.world w.old) (P.world w.new)) }
     {

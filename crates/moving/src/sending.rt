@@ -4,7 +4,7 @@ ghost use Rattle.pageset.specs.Member.{member};
 ghost use Rattle.pageset.specs.Count.{bit};
 ghost use Rattle.window.specs.Pages.{Sound};
 ghost use Rattle.letter.specs.Words.{head};
-ghost use Rattle.moving.specs.Used.{Soon, Used, Steady};
+ghost use Rattle.moving.specs.Used.{Soon, Used};
 ghost use Rattle.moving.specs.Calm.{Added, Rests, Within, Passed, Asked, AskedTo, Went};
 ghost use Rattle.moving.specs.Hosts.{me};
 ghost use Rattle.moving.specs.Model.{ticked, new_pass, over};
@@ -74,7 +74,6 @@ impl Transfer {
         requires high { place < end self.now }
         requires inside { slot self.now (place - self.now.window.base) < (P.world w.old).pages }
         ensures used { Used 2 (P.world w.old) (is_ok result) (P.world w.new) }
-        ensures steady { Steady (P.world w.old) (P.world w.new) }
         ensures line { OnOk result (Added (head Kind.Page self.now.attempt place (slot self.now (place - self.now.window.base))) (P.world w.old) (P.world w.new)) }
         ensures keeps { Carried 0 self.now (P.world w.old) result self.now (P.world w.new) }
     {
@@ -99,8 +98,7 @@ impl Transfer {
         requires below { Below self.old }
         requires ready { Carrying 1 self.old (P.world w.old) }
         ensures used { Used 3 (P.world w.old) (is_ok result) (P.world w.new) }
-        ensures steady { Steady (P.world w.old) (P.world w.new) }
-        ensures one { IfOk result (λ b. ((P.world w.old).left ≤ (P.world w.new).left + 1 + 2 * bit b) × (length self.new.window.pages ≡ length self.old.window.pages + bit b)) }
+        ensures one { IfOk result (λ b. ((P.world w.old).left ≤ (P.world w.new).left + 1 + 2 * bit b) × (self.new.window.len ≡ self.old.window.len + bit b)) }
         ensures is { OnOk result (Looked ((me (P.world w.old)).touched self.old.cursor) self.old self.new) }
         ensures line { OnOk result (Passed self.old (P.world w.old) self.new (P.world w.new)) }
         ensures asked { OnOk result (Asked self.old (P.world w.old) → Asked self.new (P.world w.new)) }
@@ -127,7 +125,6 @@ impl Transfer {
         requires none { length self.old.window.pages ≡ 0 }
         requires ready { Carrying 62 self.old (P.world w.old) }
         ensures used { Used most (P.world w.old) (is_ok result) (P.world w.new) }
-        ensures steady { Steady (P.world w.old) (P.world w.new) }
         ensures is { OnOk result (Scanned (P.world w.old).pages most self.old self.new) }
         ensures within { OnOk result (Within (P.world w.old).pages self.old self.new) }
         ensures line { OnOk result (Passed self.old (P.world w.old) self.new (P.world w.new)) }
@@ -148,8 +145,7 @@ impl Transfer {
     fn resend<P: Place>(&self, w: &mut P) -> Result<(), Down>
         requires soon { Soon (2 * length self.now.window.pages) (P.world w.old) }
         requires ready { Carrying 0 self.now (P.world w.old) }
-        ensures used { Used (2 * length self.now.window.pages) (P.world w.old) (is_ok result) (P.world w.new) }
-        ensures steady { Steady (P.world w.old) (P.world w.new) }
+        ensures used { Used (2 * self.now.window.len) (P.world w.old) (is_ok result) (P.world w.new) }
         ensures line { OnOk result (Passed self.now (P.world w.old) self.now (P.world w.new)) }
         ensures asked { OnOk result (AskedTo 0 self.now (P.world w.old) → Asked self.now (P.world w.new)) }
         ensures keeps { Carried 0 self.now (P.world w.old) result self.now (P.world w.new) }
@@ -167,7 +163,6 @@ impl Transfer {
         requires enough { 1 + 2 * length self.old.window.pages ≤ most }
         requires ready { Carrying 62 self.old (P.world w.old) }
         ensures used { Used most (P.world w.old) (is_ok result) (P.world w.new) }
-        ensures steady { Steady (P.world w.old) (P.world w.new) }
         ensures is { OnOk result (GoneOn (P.world w.old).pages most self.old self.new) }
         ensures within { OnOk result (Within (P.world w.old).pages self.old self.new) }
         ensures line { OnOk result (Went self.old (P.world w.old) self.new (P.world w.new) × Rests (P.world w.old) (P.world w.new)) }

@@ -32,9 +32,7 @@ returns-in_err-go_on g c =
     let e = c.from_residual.ensures.0 in
     record {
       used = search rules;
-      steady = search rules;
       tidy = unmade _ _ e;
-      awake = unmade _ _ e;
       is = unmade _ _ e;
       makes = unmade _ _ e;
       keeps = ends_call 62 _ c.from_residual.result e (ticks n c.args.x y c.tick-y.ensures c.requires.soon.up) (c.in_err-go_on.ensures.keeps (on_state (Copying y) n) refl) (omega arith);
@@ -46,9 +44,7 @@ returns-then-not-is_over g c =
     let y = c.tick-y.result in
     record {
       used = search rules;
-      steady = search rules;
-      tidy = record { windowed = c.in_ok-go_on.ensures.sound; asked = c.requires.tidy.asked };
-      awake = c.requires.awake;
+      tidy = record { awake = c.requires.tidy.awake; windowed = c.in_ok-go_on.ensures.sound; asked = c.requires.tidy.asked };
       is = on (search rules) (record { after = c.go_on.new.self; goes = subst (λ d. GoneOn (g.P.Place.world c.args.w.now).pages c.args.most d c.go_on.new.self) c.tick-y.ensures c.in_ok-go_on.ensures.is; node = refl });
       makes = Over.CopyOver.on (search rules) (record { after = c.go_on.new.self; goes = subst (λ d. GoneOn (g.P.Place.world c.args.w.now).pages c.args.most d c.go_on.new.self) c.tick-y.ensures c.in_ok-go_on.ensures.is; within = subst (λ d. Within (g.P.Place.world c.args.w.now).pages d c.go_on.new.self) c.tick-y.ensures c.in_ok-go_on.ensures.within; went = subst (λ d. Went d (g.P.Place.world c.args.w.now) c.go_on.new.self (g.P.Place.world c.go_on.new.w)) c.tick-y.ensures c.in_ok-go_on.ensures.line.0; node = refl });
       keeps = ends_ok 62 (omega arith) (then_call (ticks n c.args.x y c.tick-y.ensures c.requires.soon.up) c.in_ok-go_on.ensures.used.fell (c.in_ok-go_on.ensures.keeps (on_state (Copying y) n) refl));
@@ -73,9 +69,7 @@ returns-in_err-go_on-2 g c =
     let e = c.from_residual-in_err-go_on-2.ensures.0 in
     record {
       used = search rules;
-      steady = search rules;
       tidy = unmade _ _ e;
-      awake = unmade _ _ e;
       is = unmade _ _ e;
       makes = unmade _ _ e;
       keeps = ends_call 62 _ c.from_residual-in_err-go_on-2.result e (ticks_anew n c.args.x y (c.tick-y-2.ensures ∙ ap ticked c.new_pass.ensures) c.requires.soon.up) (c.in_err-go_on-2.ensures.keeps (on_state (Copying y) n) refl) (omega arith);
@@ -87,9 +81,7 @@ returns-then-not-follows_short_pass g c =
     let y = c.tick-y-2.result in
     record {
       used = search rules;
-      steady = search rules;
-      tidy = record { windowed = c.in_ok-go_on-2.ensures.sound; asked = c.requires.tidy.asked };
-      awake = c.requires.awake;
+      tidy = record { awake = c.requires.tidy.awake; windowed = c.in_ok-go_on-2.ensures.sound; asked = c.requires.tidy.asked };
       is = again (search rules) (search rules) (record { after = c.go_on-then-not-follows_short_pass.new.self; goes = subst (λ d. GoneOn (g.P.Place.world c.args.w.now).pages c.args.most d c.go_on-then-not-follows_short_pass.new.self) (c.tick-y-2.ensures ∙ ap ticked c.new_pass.ensures) c.in_ok-go_on-2.ensures.is; node = refl });
       makes = Over.CopyOver.again (search rules) (search rules) (record { after = c.go_on-then-not-follows_short_pass.new.self; goes = subst (λ d. GoneOn (g.P.Place.world c.args.w.now).pages c.args.most d c.go_on-then-not-follows_short_pass.new.self) (c.tick-y-2.ensures ∙ ap ticked c.new_pass.ensures) c.in_ok-go_on-2.ensures.is; within = subst (λ d. Within (g.P.Place.world c.args.w.now).pages d c.go_on-then-not-follows_short_pass.new.self) (c.tick-y-2.ensures ∙ ap ticked c.new_pass.ensures) c.in_ok-go_on-2.ensures.within; went = subst (λ d. Went d (g.P.Place.world c.args.w.now) c.go_on-then-not-follows_short_pass.new.self (g.P.Place.world c.go_on-then-not-follows_short_pass.new.w)) (c.tick-y-2.ensures ∙ ap ticked c.new_pass.ensures) c.in_ok-go_on-2.ensures.line.0; node = refl });
       keeps = ends_ok 62 (omega arith) (then_call (ticks_anew n c.args.x y (c.tick-y-2.ensures ∙ ap ticked c.new_pass.ensures) c.requires.soon.up) c.in_ok-go_on-2.ensures.used.fell (c.in_ok-go_on-2.ensures.keeps (on_state (Copying y) n) refl));
@@ -103,9 +95,7 @@ returns-in_err-right g c =
     let e = c.from_residual-in_err-right.ensures.0 in
     record {
       used = search rules;
-      steady = search rules;
       tidy = unmade _ _ e;
-      awake = unmade _ _ e;
       is = unmade _ _ e;
       makes = unmade _ _ e;
       keeps = ends_err 62 0 _ c.from_residual-in_err-right.result e (omega arith) (begin [] (on_state (Copying c.args.x) n) (g.P.Place.world c.args.w.now) c.requires.soon.up) c.in_err-right.ensures.does (fine (λ i m o h. stop_anew n c.args.x z (c.tick-y-2.ensures ∙ ap ticked c.new_pass.ensures) h));
@@ -132,9 +122,7 @@ returns-in_err-go_on-3 g c =
     let e = c.from_residual-in_err-go_on-3.ensures.0 in
     record {
       used = search rules;
-      steady = search rules;
       tidy = unmade _ _ e;
-      awake = unmade _ _ e;
       is = unmade _ _ e;
       makes = unmade _ _ e;
       keeps = ends_call 62 _ c.from_residual-in_err-go_on-3.result e (then_ok 0 (begin [] (on_state (Copying c.args.x) n) (g.P.Place.world c.args.w.now) c.requires.soon.up) c.in_ok-right.ensures.does refl (fine (λ i m o h. stop_anew n c.args.x z (c.tick-y-2.ensures ∙ ap ticked c.new_pass.ensures) h))) (c.in_err-go_on-3.ensures.keeps (on_state (Paused z) n) refl) (omega arith);
@@ -148,9 +136,7 @@ returns g c =
     let z : Pause = record { transfer = y; right = c.in_ok-right.right; turns = 1 } in
     record {
       used = search rules;
-      steady = search rules;
-      tidy = record { windowed = (c.in_ok-go_on-3.ensures.sound, c.in_ok-right.ensures.right ∙ sym (gone_attempt c.in_ok-go_on-3.ensures.is)); asked = c.requires.tidy.asked };
-      awake = c.requires.awake;
+      tidy = record { awake = c.requires.tidy.awake; windowed = (c.in_ok-go_on-3.ensures.sound, c.in_ok-right.ensures.right ∙ sym (gone_attempt c.in_ok-go_on-3.ensures.is)); asked = c.requires.tidy.asked };
       is = stops (search rules) (search rules) (record { after = c.go_on-2.new.self; goes = subst (λ d. GoneOn (g.P.Place.world c.args.w.now).pages (c.args.most - 1) d c.go_on-2.new.self) (c.tick-y-2.ensures ∙ ap ticked c.new_pass.ensures) (subst (λ p. GoneOn p (c.args.most - 1) y c.go_on-2.new.self) c.in_ok-right.ensures.used.pages c.in_ok-go_on-3.ensures.is); node = search rules });
       makes = Over.CopyOver.stops (search rules) (search rules) (record { after = c.go_on-2.new.self; goes = subst (λ d. GoneOn (g.P.Place.world c.args.w.now).pages (c.args.most - 1) d c.go_on-2.new.self) (c.tick-y-2.ensures ∙ ap ticked c.new_pass.ensures) (subst (λ p. GoneOn p (c.args.most - 1) y c.go_on-2.new.self) c.in_ok-right.ensures.used.pages c.in_ok-go_on-3.ensures.is); within = subst (λ d. Within (g.P.Place.world c.args.w.now).pages d c.go_on-2.new.self) (c.tick-y-2.ensures ∙ ap ticked c.new_pass.ensures) (subst (λ p. Within p y c.go_on-2.new.self) c.in_ok-right.ensures.used.pages c.in_ok-go_on-3.ensures.within); went = subst (λ d. Went d (g.P.Place.world c.args.w.now) c.go_on-2.new.self (g.P.Place.world c.go_on-2.new.w)) (c.tick-y-2.ensures ∙ ap ticked c.new_pass.ensures) (went_after k.line.calmly k.used.pages k.line.own k.line.far c.in_ok-go_on-3.ensures.line.0); node = search rules });
       keeps = ends_ok 62 (omega arith) (then_call (then_ok 0 (begin [] (on_state (Copying c.args.x) n) (g.P.Place.world c.args.w.now) c.requires.soon.up) c.in_ok-right.ensures.does refl (fine (λ i m o h. stop_anew n c.args.x z (c.tick-y-2.ensures ∙ ap ticked c.new_pass.ensures) h))) c.in_ok-go_on-3.ensures.used.fell (c.in_ok-go_on-3.ensures.keeps (on_state (Paused z) n) refl));

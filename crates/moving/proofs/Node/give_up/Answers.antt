@@ -18,9 +18,7 @@ returns-in_err-resume g c =
     let e = c.from_residual.ensures.0 in
     record {
       used = search rules;
-      steady = search rules;
       tidy = unmade _ _ e;
-      awake = unmade _ _ e;
       is = unmade _ _ e;
       makes = unmade _ _ e;
       keeps = ends_err 62 0 _ c.from_residual.result e (omega arith) (begin [] (on_state (Paused x) n) (g.P.Place.world c.args.w.now) c.requires.soon.up) c.in_err-resume.ensures.does (fine (λ i m o h. (give_up n x c.tick-y.result c.requires.tidy.windowed.1 (c.tick-y.ensures ∙ ap ticked c.new_pass.ensures) h).1));
@@ -47,9 +45,7 @@ returns-in_err-go_on g c =
     let e = c.from_residual-in_err-go_on.ensures.0 in
     record {
       used = search rules;
-      steady = search rules;
       tidy = unmade _ _ e;
-      awake = unmade _ _ e;
       is = unmade _ _ e;
       makes = unmade _ _ e;
       keeps = ends_call 62 _ c.from_residual-in_err-go_on.result e (then_ok 0 (begin [] (on_state (Paused x) n) (g.P.Place.world c.args.w.now) c.requires.soon.up) c.in_ok-resume.ensures.does refl (fine (λ i m o h. (give_up n x y c.requires.tidy.windowed.1 (c.tick-y.ensures ∙ ap ticked c.new_pass.ensures) h).1))) (c.in_err-go_on.ensures.keeps (copies_on y n) refl) (omega arith);
@@ -64,9 +60,7 @@ returns g c =
     let k = c.in_ok-resume.ensures in
     record {
       used = search rules;
-      steady = search rules;
-      tidy = record { windowed = c.in_ok-go_on.ensures.sound; asked = c.requires.tidy.asked };
-      awake = c.requires.awake;
+      tidy = record { awake = c.requires.tidy.awake; windowed = c.in_ok-go_on.ensures.sound; asked = c.requires.tidy.asked };
       is = record { after = c.go_on.new.self; goes = subst (λ d. GoneOn (g.P.Place.world c.args.w.now).pages (c.args.most - 1) d c.go_on.new.self) e (subst (λ p. GoneOn p (c.args.most - 1) y c.go_on.new.self) c.in_ok-resume.ensures.used.pages c.in_ok-go_on.ensures.is); node = ap (λ (d : Transfer). on_state (Copying c.go_on.new.self) (took_for d.attempt n)) e };
       makes = record { after = c.go_on.new.self; goes = subst (λ d. GoneOn (g.P.Place.world c.args.w.now).pages (c.args.most - 1) d c.go_on.new.self) e (subst (λ p. GoneOn p (c.args.most - 1) y c.go_on.new.self) c.in_ok-resume.ensures.used.pages c.in_ok-go_on.ensures.is); within = subst (λ d. Within (g.P.Place.world c.args.w.now).pages d c.go_on.new.self) e (subst (λ p. Within p y c.go_on.new.self) c.in_ok-resume.ensures.used.pages c.in_ok-go_on.ensures.within); went = subst (λ d. Went d (g.P.Place.world c.args.w.now) c.go_on.new.self (g.P.Place.world c.go_on.new.w)) e (went_after k.line.calmly k.used.pages k.line.own k.line.far c.in_ok-go_on.ensures.line.0); node = ap (λ (d : Transfer). on_state (Copying c.go_on.new.self) (took_for d.attempt n)) e };
       keeps = ends_ok 62 (omega arith) (then_call (then_ok 0 (begin [] (on_state (Paused x) n) (g.P.Place.world c.args.w.now) c.requires.soon.up) c.in_ok-resume.ensures.does refl (fine (λ i m o h. (give_up n x y c.requires.tidy.windowed.1 (c.tick-y.ensures ∙ ap ticked c.new_pass.ensures) h).1))) c.in_ok-go_on.ensures.used.fell (c.in_ok-go_on.ensures.keeps (copies_on y n) refl));

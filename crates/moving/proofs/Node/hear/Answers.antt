@@ -2,7 +2,6 @@ use Rattle.std.proofs.Common.{◌+◌, [], subst, arith, rules}
 use Rattle.pageset.specs.Count.{bit}
 use Rattle.moving.specs.Calm.{Hearing}
 use Rattle.moving.specs.Acted.{none}
-use Rattle.moving.proofs.Uses.{steady_then}
 use Rattle.moving.proofs.Hearings.{hearing_self, hearing_next, heard_out, heard_full}
 use Rattle.moving.proofs.Heard.{hear_more}
 use Rattle.moving.proofs.Ways.{begin, then_call, ends_ok, ends_call, ready}
@@ -12,8 +11,6 @@ pub loop-heard-init : goal.loop-heard-init
 loop-heard-init g c =
     record {
       used = search rules;
-      steady = search rules;
-      awake = c.requires.awake;
       tidy = c.requires.tidy;
       idle = λ e. e;
       is = record { letters = []; hears = none };
@@ -42,8 +39,6 @@ loop-heard-preserved g c =
     let l = c.in_ok-hear_one.ensures in
     record {
       used = search rules;
-      steady = steady_then i.steady l.steady;
-      awake = l.awake;
       tidy = l.tidy;
       idle = λ e. l.idle (i.idle e);
       is = hear_more i.used.pages i.is l.is;

@@ -1,5 +1,5 @@
 use Rattle.std.proofs.Common.{◌≡◌, ◌*◌, true, [], None}
-use Rattle.moving.specs.Used.{Used, Steady}
+use Rattle.moving.specs.Used.{Used}
 use Rattle.moving.specs.Model.{Tidy, moving}
 use Rattle.moving.specs.Acted.{Heard}
 use Rattle.moving.specs.Calm.{Hearing}
@@ -10,8 +10,6 @@ abbrev pub invariant-loop-heard : goal.invariant-loop-heard
 invariant-loop-heard g l =
     record {
       used : Used (2 * l.heard) (g.P.Place.world l.initial.w) true (g.P.Place.world l.w);
-      steady : Steady (g.P.Place.world l.initial.w) (g.P.Place.world l.w);
-      awake : l.self.awake ≡ true;
       tidy : Tidy l.self;
       idle : (moving l.initial.self.state ≡ None → moving l.self.state ≡ None);
       is : Heard (g.P.Place.world l.initial.w).pages l.initial.self l.self;

@@ -23,7 +23,6 @@ returns-in_err-touched g c =
     let e = c.from_residual.ensures.0 in
     record {
       used = search rules;
-      steady = search rules;
       line = unmade _ _ e;
       asked = unmade _ _ e;
       one = unmade _ _ e;
@@ -56,7 +55,6 @@ returns-then-not-unsent g c =
     let few = c.requires.room in
     record {
       used = search rules;
-      steady = search rules;
       one = search rules;
       is = l;
       line = passed_look c.requires.more k.used.pages refl k.does k.line.calmly k.line.rests k.line.own (calm_self _) (λ e. (e, refl)) refl l;
@@ -96,7 +94,6 @@ returns-in_err-send_page g c =
     let e = c.from_residual-in_err-send_page.ensures.0 in
     record {
       used = search rules;
-      steady = search rules;
       line = unmade _ _ e;
       asked = unmade _ _ e;
       one = unmade _ _ e;
@@ -132,7 +129,6 @@ returns g c =
     let sent : Added (head Page x.attempt (x.window.base + length x.window.pages) x.cursor) (g.P.Place.world c.touched.new.w) (g.P.Place.world c.send_page.new.w) = subst₂ (λ a b. Added (head Page x.attempt a b) (g.P.Place.world c.touched.new.w) (g.P.Place.world c.send_page.new.w)) place at s.line in
     record {
       used = search rules;
-      steady = search rules;
       one = search rules;
       is = l;
       line = passed_look c.requires.more k.used.pages s.used.pages k.does k.line.calmly k.line.rests k.line.own sent.calmly sent.rests sent.own l;

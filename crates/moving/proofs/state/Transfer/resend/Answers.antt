@@ -32,7 +32,6 @@ loop-place-preserved g c =
     let a : Added (head Page x.attempt (x.window.base + k) (slot x k)) (g.P.Place.world c.loop-place.w) (g.P.Place.world c.send_page.new.w) = subst (λ a. Added (head Page x.attempt a (slot x k)) (g.P.Place.world c.loop-place.w) (g.P.Place.world c.send_page.new.w)) place s.line in
     record {
       used = search rules;
-      steady = search rules;
       line = passed_then i.line (passed_same x a.calmly a.rests s.used.pages a.own);
       asked = λ d. subst (λ j. AskedTo j x (g.P.Place.world c.send_page.new.w)) next (asked_next x k c.len.ensures.sound.room (omega arith) a (i.asked d));
       so = λ n has.

@@ -22,8 +22,7 @@ loop-left-init g c =
       pages = c.pages-pages.ensures;
       few = omega arith;
       used = search rules;
-      steady = search rules;
-      sound = record { room = omega arith; places = omega arith };
+      sound = c.requires.sound;
       below = λ k lt. absurd (omega arith);
       looks = record { answers = []; looks = none };
       within = λ h. h;
@@ -71,7 +70,6 @@ loop-left-preserved g c =
       pages = i.pages ∙ sym l.used.pages;
       few = search rules;
       used = search rules;
-      steady = search rules;
       sound = l.sound.0;
       below = l.sound.1;
       looks = record { answers = _; looks = more _ _ _ _ i.looks.looks l.is };

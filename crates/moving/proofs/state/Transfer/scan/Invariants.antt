@@ -3,7 +3,7 @@ use Rattle.window.specs.Pages.{Sound}
 use Rattle.moving.specs.declared.Node.{Node}
 use Rattle.moving.specs.Model.{moving, carrying}
 use Rattle.moving.specs.Scan.{Below, Looks}
-use Rattle.moving.specs.Used.{Used, Steady}
+use Rattle.moving.specs.Used.{Used}
 use Rattle.moving.specs.Calm.{Passed, Asked}
 use Rattle.moving.proofs.Ways.{SoFar}
 use Rattle.moving.proofs.state.Transfer.scan.Given as goal
@@ -14,7 +14,6 @@ invariant-loop-left g l =
       pages : l.pages ≡ (g.P.Place.world l.w).pages;
       few : l.left ≤ l.most;
       used : Used (l.most - l.left) (g.P.Place.world l.initial.w) true (g.P.Place.world l.w);
-      steady : Steady (g.P.Place.world l.initial.w) (g.P.Place.world l.w);
       sound : Sound l.self.window;
       below : Below l.self;
       looks : record { answers : List Bool; looks : Looks l.initial.self answers l.self };
