@@ -98,7 +98,7 @@ impl Transfer {
         requires below { Below self.old }
         requires ready { Carrying 1 self.old (P.world w.old) }
         ensures used { Used 3 (P.world w.old) (is_ok result) (P.world w.new) }
-        ensures one { IfOk result (λ b. ((P.world w.old).left ≤ (P.world w.new).left + 1 + 2 * bit b) × (self.new.window.len ≡ self.old.window.len + bit b)) }
+        ensures one { IfOk result (λ b. ((P.world w.old).left ≤ (P.world w.new).left + 1 + 2 * bit b) × (length self.new.window.pages ≡ length self.old.window.pages + bit b)) }
         ensures is { OnOk result (Looked ((me (P.world w.old)).touched self.old.cursor) self.old self.new) }
         ensures line { OnOk result (Passed self.old (P.world w.old) self.new (P.world w.new)) }
         ensures asked { OnOk result (Asked self.old (P.world w.old) → Asked self.new (P.world w.new)) }
@@ -145,7 +145,7 @@ impl Transfer {
     fn resend<P: Place>(&self, w: &mut P) -> Result<(), Down>
         requires soon { Soon (2 * length self.now.window.pages) (P.world w.old) }
         requires ready { Carrying 0 self.now (P.world w.old) }
-        ensures used { Used (2 * self.now.window.len) (P.world w.old) (is_ok result) (P.world w.new) }
+        ensures used { Used (2 * length self.now.window.pages) (P.world w.old) (is_ok result) (P.world w.new) }
         ensures line { OnOk result (Passed self.now (P.world w.old) self.now (P.world w.new)) }
         ensures asked { OnOk result (AskedTo 0 self.now (P.world w.old) → Asked self.now (P.world w.new)) }
         ensures keeps { Carried 0 self.now (P.world w.old) result self.now (P.world w.new) }

@@ -22,7 +22,7 @@ loop-left-init g c =
       pages = c.pages-pages.ensures;
       few = omega arith;
       used = search rules;
-      sound = c.requires.sound;
+      sound = record { room = omega arith; places = omega arith };
       below = λ k lt. absurd (omega arith);
       looks = record { answers = []; looks = none };
       within = λ h. h;
