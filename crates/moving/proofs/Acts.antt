@@ -1,6 +1,6 @@
 -- What a node does by itself: all stays whole, and what holds of the node alone.
 -- Assumes nothing.
-use Rattle.std.proofs.Common.{◌≡◌, ℕ, ◌+◌, ◌%◌, ◌<◌, ◌≤◌, min, Bool, true, false, ltb, List, [], is_err, Result, sym, refl, ap, ◌∙◌, subst, inl, inr, arith, lt-ltb}
+use Rattle.std.proofs.Common.{◌≡◌, ℕ, ◌+◌, ◌%◌, ◌<◌, ◌≤◌, min, Bool, true, false, ltb, List, Option, Some, None, [], is_err, Result, sym, refl, ap, ◌∙◌, subst, inl, inr, arith, lt-ltb, length}
 use mathlib.Core.Path.{subst⁻¹}
 use Rattle.std.proofs.lemmas.Bool.{cases_lt}
 use Rattle.letter.specs.declared.Kind.TheVariants.{Commit}
@@ -46,11 +46,11 @@ tells_err j z f r e q s (posts d c v g k) p =
     ends_err j 0 f r e (omega arith) s k (fine (λ i x o h. sends_whole g (commit_legit (spelt (bare Commit z.attempt 0)) z q refl refl h.both) h))
 
 -- COMMIT
-pub settle_whole : {i m : ℕ} {x : List (List ℕ)} {o : Node} {w : World} (n : Node) (z : Pause) → z.right.attempt ≡ z.transfer.attempt → z.transfer.window.len ≡ 0 → z.transfer.cursor ≡ w.pages → Whole i m x (on_state (Paused z) n) o w → Whole i m x (settled z.transfer.attempt n) o (kept 2 z.right.attempt w)
+pub settle_whole : {i m : ℕ} {x : List (List ℕ)} {o : Node} {w : World} (n : Node) (z : Pause) → z.right.attempt ≡ z.transfer.attempt → length z.transfer.window.pages ≡ 0 → z.transfer.cursor ≡ w.pages → Whole i m x (on_state (Paused z) n) o w → Whole i m x (settled z.transfer.attempt n) o (kept 2 z.right.attempt w)
 settle_whole {i = i} {m = m} {x = x} {o = o} {w = w} n z e len cur h = subst⁻¹ (λ a. Whole i m x (settled z.transfer.attempt n) o (kept 2 a w)) e (commit_whole z refl len cur h)
 
 -- A NEW ATTEMPT
-pub new_whole : {i m : ℕ} {x : List (List ℕ)} {o : Node} {w : World} (n : Node) (d : Transfer) (t p : ℕ) → n.state ≡ Running (record { wanted = true }) → n.awake ≡ true → n.top < t → t ≤ n.top + 2 → t % 2 ≡ n.me → d.attempt ≡ t → d.window.len ≡ 0 → d.window.base ≡ 0 → p ≡ w.pages → ((q : ℕ) → unsent d q ≡ ltb q p) → Whole i m x n o w → Whole i (m + 2) x (on_top t (Copying d) n) o (kept 1 t w)
+pub new_whole : {i m : ℕ} {x : List (List ℕ)} {o : Node} {w : World} (n : Node) (d : Transfer) (t p : ℕ) → n.state ≡ Running (record { wanted = true }) → n.awake ≡ true → n.top < t → t ≤ n.top + 2 → t % 2 ≡ n.me → d.attempt ≡ t → length d.window.pages ≡ 0 → d.window.base ≡ 0 → p ≡ w.pages → ((q : ℕ) → unsent d q ≡ ltb q p) → Whole i m x n o w → Whole i (m + 2) x (on_top t (Copying d) n) o (kept 1 t w)
 new_whole {i = i} {m = m} {x = x} {o = o} {w = w} n d t p s aw gt le own e len base q un h =
     let top = (h.both.ours.cells.copies aw).1 in
     let most = h.both.ours.cells.most in
@@ -59,7 +59,7 @@ new_whole {i = i} {m = m} {x = x} {o = o} {w = w} n d t p s aw gt le own e len b
 
 -- GOING ON
 -- only counts change
-pub then_recounts : {x : List (List ℕ)} {b : Node} {w v : World} {j : ℕ} (n : Node) (c d : Transfer) (k s t p : ℕ) → d ≡ recount c k s t p → SoFar x b w j [] (on_state (Copying c) n) v → SoFar x b w (j + 0) [] (on_state (Copying d) n) v
+pub then_recounts : {x : List (List ℕ)} {b : Node} {w v : World} {j : ℕ} (n : Node) (c d : Transfer) (k s t : ℕ) (p : Option ℕ) → d ≡ recount c k s t p → SoFar x b w j [] (on_state (Copying c) n) v → SoFar x b w (j + 0) [] (on_state (Copying d) n) v
 then_recounts {x = x} {b = b} {w = w} {v = v} {j = j} n c d k s t p e q =
     subst⁻¹ (λ d. SoFar x b w (j + 0) [] (on_state (Copying d) n) v) e (then_so 0 q (fine (λ i z o h. alone h (recount_copying c k s t p refl h.both))))
 
@@ -70,7 +70,7 @@ pub ticks : {w : World} (n : Node) (c d : Transfer) → d ≡ ticked c → w.fel
 ticks {w = w} n c d e up = then_ticks n c d e (begin [] (on_state (Copying c) n) w up)
 
 pub ticks_anew : {w : World} (n : Node) (c d : Transfer) → d ≡ ticked (anew c) → w.fell ≡ false → SoFar [] (on_state (Copying c) n) w (0 + 0) [] (on_state (Copying d) n) w
-ticks_anew {w = w} n c d e up = then_recounts n c d 0 0 (min (0 + 1) 4294967295) c.turns e (begin [] (on_state (Copying c) n) w up)
+ticks_anew {w = w} n c d e up = then_recounts n c d 0 0 (min (0 + 1) 4294967295) (Some c.turns) e (begin [] (on_state (Copying c) n) w up)
 
 pub ticks_paused : {w : World} (n : Node) (z : Pause) (d : Transfer) (k : ℕ) → d ≡ ticked z.transfer → w.fell ≡ false → SoFar [] (on_state (Paused z) n) w (0 + 0) [] (on_state (Paused (record { transfer = d; right = z.right; turns = k })) n) w
 ticks_paused {w = w} n z d k e up =
@@ -84,7 +84,7 @@ looks_attempt (more bs b y z l k) = k.attempt ∙ looks_attempt l
 
 pub gone_attempt : {pages most : ℕ} {x y : Transfer} → GoneOn pages most x y → y.attempt ≡ x.attempt
 gone_attempt {x = x} g =
-    elim (cases_lt 0 x.window.len) [ inl l ↦ ap (λ (c : Transfer). c.attempt) (g.same l) | inr l ↦ looks_attempt (g.goes (omega arith)).looks ]
+    elim (cases_lt 0 (length x.window.pages)) [ inl l ↦ ap (λ (c : Transfer). c.attempt) (g.same l) | inr l ↦ looks_attempt (g.goes (omega arith)).looks ]
 
 -- STOP
 pub stop_anew : {i m : ℕ} {x : List (List ℕ)} {o : Node} {w : World} (n : Node) (c : Transfer) (z : Pause) → z.transfer ≡ ticked (anew c) → Whole i m x (on_state (Copying c) n) o w → Whole i m x (on_state (Paused z) n) o (stopped w)
@@ -96,16 +96,17 @@ copies_on d n = record { me = n.me; awake = n.awake; took = d.attempt; top = n.t
 
 pub give_up : {i m : ℕ} {x : List (List ℕ)} {o : Node} {w : World} (n : Node) (z : Pause) (d : Transfer) → z.right.attempt ≡ z.transfer.attempt → d ≡ ticked (afresh z.transfer) → Whole i m x (on_state (Paused z) n) o w → MayResume w × Whole i m x (copies_on d n) o (resumed z.right.attempt w)
 give_up {i = i} {m = m} {x = x} {o = o} {w = w} n z d e f h =
-    let q = again_whole z 0 0 (min (0 + 1) 4294967295) 4294967295 refl h in
+    let q = again_whole z 0 0 (min (0 + 1) 4294967295) None refl h in
     (q.0, subst⁻¹ (λ d. Whole i m x (copies_on d n) o (resumed z.right.attempt w)) f (subst⁻¹ (λ a. Whole i m x (copies_on (ticked (afresh z.transfer)) n) o (resumed a w)) e q.1))
 
 -- RUN
 pub ran_tidy : (n a : Node) (x : Run) (k : Bool) → a ≡ on_state (Running (record { wanted = k })) n → Tidy (on_state (Running x) n) → Tidy a
-ran_tidy n a x k e h = subst⁻¹ Tidy e (record { windowed = tt; asked = h.asked })
+ran_tidy n a x k e h = subst⁻¹ Tidy e (record { awake = h.awake; windowed = tt; asked = h.asked })
 
 pub run_tidy : (n a b : Node) (x : Run) (k : Bool) (t : ℕ) (d : Transfer) → a ≡ on_state (Running (record { wanted = k })) n → b ≡ on_top t a.state a → a.top < t → Sound d.window → Tidy (on_state (Running x) n) → Tidy (on_state (Copying d) b)
 run_tidy n a b x k t d e f l s h =
     record {
+      awake = ap (λ (n : Node). n.awake) f ∙ ap (λ (n : Node). n.awake) e ∙ h.awake;
       windowed = s;
       asked = subst⁻¹ (λ b. AskedWell (on_state (Copying d) b)) f (λ u g. let q = (ran_tidy n a x k e h).asked u g in let z = q.2 in (q.0, q.1, omega arith));
     }

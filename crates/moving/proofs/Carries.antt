@@ -1,16 +1,15 @@
 -- What the parts of a transfer do, for every node that has it.
 -- Assumes nothing.
-use Rattle.std.proofs.Common.{◌≡◌, ℕ, ◌+◌, ◌-◌, ◌<◌, ◌≤◌, Bool, true, false, not, ◌&&◌, ◌||◌, eqb, List, [], is_ok, is_err, Some, Ok, Err, Result, sym, refl, ap, ◌∙◌, subst, subst₂, inl, inr, arith, eq-eqb, ne_eqb}
+use Rattle.std.proofs.Common.{◌≡◌, ℕ, ◌+◌, ◌-◌, ◌<◌, ◌≤◌, Bool, true, false, not, ◌&&◌, ◌||◌, eqb, List, Option, [], ◌∷◌, is_ok, is_err, Some, Ok, Err, Result, sym, refl, ap, ◌∙◌, subst, subst₂, inl, inr, arith, eq-eqb, ne_eqb, length}
+use Rattle.std.proofs.lemmas.List.{length_push, get_or_push, get_or_append_left}
 use borrow.Author.Tests.{both_ways}
 use Rattle.std.proofs.lemmas.Bool.{cases_lt, cases_eq}
 use Rattle.letter.specs.declared.Kind.TheVariants.{Probe, Page}
 use Rattle.letter.specs.Words.{spelt}
 use Rattle.pageset.specs.declared.PageSet.{PageSet}
 use Rattle.pageset.specs.Member.{member}
-use Rattle.window.specs.declared.Window.{Window}
-use Rattle.window.specs.Pages.{Sound, pushed, most, pages_of}
+use Rattle.window.specs.Pages.{Flying, pushed}
 use Rattle.window.specs.Pages as pages
-use Rattle.window.proofs.Slots.{pushed_last, pushed_slot}
 use Rattle.moving.specs.declared.Down.{Down}
 use Rattle.moving.specs.declared.Node.{Node}
 use Rattle.moving.specs.declared.state.Transfer.{Transfer}
@@ -69,14 +68,14 @@ false_and : (a : Bool) → (false && a) ≡ false
 false_and a = refl
 
 -- the page at the cursor went into the window
-pub pushed_by : (c d : Transfer) → Sound c.window → c.window.len < 62 → Below c → d.attempt ≡ c.attempt → d.window ≡ pushed c.cursor c.window → ((q : ℕ) → member d.unsent q ≡ (not (eqb q c.cursor) && member c.unsent q)) → Pushed c d c.cursor
-pushed_by c d s room below at win un =
+pub pushed_by : (c d : Transfer) → Below c → d.attempt ≡ c.attempt → d.window ≡ pushed c.cursor c.window → ((q : ℕ) → member d.unsent q ≡ (not (eqb q c.cursor) && member c.unsent q)) → Pushed c d c.cursor
+pushed_by c d below at win un =
     record {
       attempt = at;
-      base = ap (λ (v : Window). v.base) win;
-      len = ap (λ (v : Window). v.len) win;
-      last = ap (λ (v : Window). pages.slot v c.window.len) win ∙ pushed_last c.cursor c.window s room;
-      old = λ k lt. ap (λ (v : Window). pages.slot v k) win ∙ pushed_slot c.cursor c.window k s room lt;
+      base = ap (λ (v : Flying). v.base) win;
+      len = ap (λ (v : Flying). length v.pages) win ∙ length_push c.window.pages c.cursor;
+      last = ap (λ (v : Flying). pages.slot v (length c.window.pages)) win ∙ get_or_push c.window.pages c.cursor 0 (length c.window.pages) refl;
+      old = λ k lt. ap (λ (v : Flying). pages.slot v k) win ∙ get_or_append_left c.window.pages (c.cursor ∷ []) 0 k lt;
       sent = un c.cursor ∙ ap (λ b. not b && member c.unsent c.cursor) (eq-eqb c.cursor c.cursor refl);
       kept = λ q ne. un q ∙ ap (λ b. not b && member c.unsent q) (ne_eqb q c.cursor ne);
       free = λ k lt e. let b = below k lt in omega arith;
@@ -99,7 +98,7 @@ push_carrying {i = i} {m = m} {x = x} {n = n} {o = o} {w = w} c d has k cur lt h
         (push_paused_whole z (record { transfer = d; right = z.right; turns = z.turns }) e (subst (λ b. Pushed b d b.cursor) (sym t) k) (cur ∙ ap (λ (b : Transfer). b.cursor + 1) (sym t)) (subst (λ b. b.cursor < w.pages) (sym t) lt) (subst (λ b. end b < m + 1) (sym t) (omega arith)) (more_whole (omega arith) h))
     go (Committed z) e f = none_some f
 
-pub skip_carrying : {i m : ℕ} {x : List (List ℕ)} {n o : Node} {w : World} (c : Transfer) (s t v : ℕ) → moving n.state ≡ Some c → (me w).touched c.cursor ≡ false → unsent c c.cursor ≡ false → Whole i m x n o w → Whole i m x (carrying (recount c (c.cursor + 1) s t v) n) o (untouched c.cursor w)
+pub skip_carrying : {i m : ℕ} {x : List (List ℕ)} {n o : Node} {w : World} (c : Transfer) (s t : ℕ) (v : Option ℕ) → moving n.state ≡ Some c → (me w).touched c.cursor ≡ false → unsent c c.cursor ≡ false → Whole i m x n o w → Whole i m x (carrying (recount c (c.cursor + 1) s t v) n) o (untouched c.cursor w)
 skip_carrying {i = i} {m = m} {x = x} {n = n} {o = o} {w = w} c s t v has f g h = go n.state refl has
   where
     go : (q : State) → n.state ≡ q → moving q ≡ Some c → Whole i m x (on_state (carries (recount c (c.cursor + 1) s t v) q) n) o (untouched c.cursor w)
@@ -114,21 +113,20 @@ skip_carrying {i = i} {m = m} {x = x} {n = n} {o = o} {w = w} c s t v has f g h 
     go (Committed z) e k = none_some k
 
 -- the pages in the window are below the new cursor too
-pub pushed_below : (c d : Transfer) → Sound c.window → c.window.len < 62 → Below c → Pushed c d c.cursor → d.cursor ≡ c.cursor + 1 → Below d
-pushed_below c d s room below p cur k lt =
+pub pushed_below : (c d : Transfer) → Below c → Pushed c d c.cursor → d.cursor ≡ c.cursor + 1 → Below d
+pushed_below c d below p cur k lt =
     let l = p.len in
-    elim (cases_lt k c.window.len) [
+    elim (cases_lt k (length c.window.pages)) [
       | inl b ↦ let z = below k b in let y = p.old k b in omega arith
-      | inr b ↦ let q : k ≡ c.window.len = omega arith in let y : slot d k ≡ c.cursor = ap (slot d) q ∙ p.last in omega arith
+      | inr b ↦ let q : k ≡ length c.window.pages = omega arith in let y : slot d k ≡ c.cursor = ap (slot d) q ∙ p.last in omega arith
     ]
 
-pub or_false_left : (a b : Bool) → (a || b) ≡ false → a ≡ false
-or_false_left true b e = e
-or_false_left false b e = refl
+pub or_left : {a : Bool} (b : Bool) → a ≡ true → (a || b) ≡ true
+or_left b e = rw e refl
 
-pub or_false_right : (a b : Bool) → (a || b) ≡ false → b ≡ false
-or_false_right true b e = absurd (both_ways true e refl)
-or_false_right false b e = e
+pub or_right : {b : Bool} (a : Bool) → b ≡ true → (a || b) ≡ true
+or_right true e = refl
+or_right false e = e
 
 -- a page that isn't in the set can be taken out of it
 pub skip_unsent : (s : PageSet) (p : ℕ) → member s p ≡ false → (q : ℕ) → member s q ≡ (not (eqb q p) && member s q)
@@ -139,14 +137,14 @@ skip_unsent s p u q =
     ]
 
 -- what is below a cursor is below the next
-pub below_more : (c : Transfer) (s t v : ℕ) → Below c → Below (recount c (c.cursor + 1) s t v)
+pub below_more : (c : Transfer) (s t : ℕ) (v : Option ℕ) → Below c → Below (recount c (c.cursor + 1) s t v)
 below_more c s t v b k lt = let z = b k lt in omega arith
 
 pub or_true : (a b : Bool) (x y : Bool) → a ≡ x → b ≡ y → (a || b) ≡ true → (x || y) ≡ true
 or_true a b x y e f h = subst₂ (λ p q. (p || q) ≡ true) e f h
 
 -- a fall lets numbers grow by one at most
-pub grown : {c d : Transfer} {w v : World} (r : Result ℕ Down) → is_err r ≡ true → Carried 1 c w r d v → Carried (grows r) c w r d v
+pub grown : {c d : Transfer} {w v : World} (r : Result Bool Down) → is_err r ≡ true → Carried 1 c w r d v → Carried (grows r) c w r d v
 grown (Ok x) e h = absurd (both_ways false refl e)
 grown (Err x) e h = h
 

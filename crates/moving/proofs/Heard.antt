@@ -1,6 +1,7 @@
 -- What a letter makes of a node: all stays whole, and what holds of the node alone.
 -- Assumes nothing.
 use Rattle.std.proofs.Common.{◌≡◌, ℕ, ◌+◌, ◌-◌, ◌%◌, ◌<◌, ◌≤◌, Bool, true, false, cond, ◌&&◌, eqb, ltb, leb, List, [], ◌∷◌, ◌++◌, length, is_ok, is_err, Some, None, Ok, Err, Result, sym, refl, ap, ◌∙◌, subst, subst₂, inl, inr, arith, ltb-false, ltb-true, eq-eqb, ne_eqb, eqb-true, leb-true}
+use Rattle.std.proofs.lemmas.List.{length-drop, get_or-drop}
 use mathlib.Core.Path.{subst⁻¹}
 use mathlib.Core.List.Memᴰ
 use Rattle.std.proofs.lemmas.Bool.{and_parts}
@@ -10,7 +11,6 @@ use Rattle.letter.specs.declared.Letter.{Letter}
 use Rattle.letter.specs.Words.{number, spelt, letter_of}
 use Rattle.letter.proofs.Spell.{written_read}
 use Rattle.window.specs.Pages.{Sound, dropped}
-use Rattle.window.proofs.Slots.{dropped_sound, dropped_slot}
 use Rattle.moving.specs.declared.Down.{Down}
 use Rattle.moving.specs.declared.Node.{Node}
 use Rattle.moving.specs.declared.state.Transfer.{Transfer}
@@ -32,11 +32,11 @@ use Rattle.moving.proofs.Ways.{SoFar, begin, got, gotten}
 
 -- asks add up
 pub used_more : {a : ℕ} {w v : World} {b : Bool} (c : ℕ) → Used a w b v → a ≤ c → Used c w b v
-used_more c s p = record { left = omega arith; fell = s.fell; pages = s.pages; fall = s.fall }
+used_more c s p = record { left = omega arith; fell = s.fell; pages = s.pages; fall = s.fall; calm = s.calm; still = s.still }
 
 pub used_err : {A : Type 0} {a b : ℕ} {w v x : World} (c : ℕ) (r : Result A Down) → is_err r ≡ true → Used a w true v → Used b v false x → a + b ≤ c → Used c w (is_ok r) x
 used_err c (Ok y) e s t p = no e refl
-used_err c (Err y) e s t p = record { left = omega arith; fell = t.fell; pages = t.pages ∙ s.pages; fall = t.fall }
+used_err c (Err y) e s t p = record { left = omega arith; fell = t.fell; pages = t.pages ∙ s.pages; fall = t.fall; calm = t.calm ∙ s.calm; still = t.still ∙ s.still }
 
 some_is : {a b : ℕ} → Some a ≡ Some b → a ≡ b
 some_is e = cc
@@ -57,8 +57,8 @@ reask t h =
 pub reask_whole : {i m : ℕ} {x : List (List ℕ)} {n o : Node} {w : World} (t : ℕ) → Whole i m x n o w → Whole i m x (asked_for t n) o w
 reask_whole t h = alone h (reask t h.both)
 
-pub asked_tidy : (n : Node) (t : ℕ) → Windowed n.state → t % 2 ≡ 1 - n.me → 1 ≤ t → t ≤ n.top → Tidy (asked_for t n)
-asked_tidy n t w a b c = record { windowed = w; asked = λ s e. subst (λ s. (s % 2 ≡ 1 - n.me) × (1 ≤ s) × (s ≤ n.top)) (some_is e) (a, b, c) }
+pub asked_tidy : (n : Node) (t : ℕ) → n.awake ≡ true → Windowed n.state → t % 2 ≡ 1 - n.me → 1 ≤ t → t ≤ n.top → Tidy (asked_for t n)
+asked_tidy n t aw w a b c = record { awake = aw; windowed = w; asked = λ s e. subst (λ s. (s % 2 ≡ 1 - n.me) × (1 ≤ s) × (s ≤ n.top)) (some_is e) (a, b, c) }
 
 -- PROBE
 -- a host that begins no attempt of the other has the guest
@@ -91,11 +91,11 @@ probe_top {n = n} {w = w} l k aw h e = go (ltb n.top l.attempt) refl e
         omega arith
     go false q f = ltb-false n.top l.attempt q
 
-pub probe_none_tidy : {i m : ℕ} {n o : Node} {w : World} (l : Letter) (b : Bool) → b ≡ begins n.state → (ltb n.top l.attempt && b) ≡ false → l.kind ≡ Probe → n.awake ≡ true → Whole i m (spelt l ∷ []) n o w → Tidy n → Tidy (asked_for l.attempt n)
-probe_none_tidy {n = n} l b q e k aw h t =
+pub probe_none_tidy : {i m : ℕ} {n o : Node} {w : World} (l : Letter) (b : Bool) → b ≡ begins n.state → (ltb n.top l.attempt && b) ≡ false → l.kind ≡ Probe → Whole i m (spelt l ∷ []) n o w → Tidy n → Tidy (asked_for l.attempt n)
+probe_none_tidy {n = n} l b q e k h t =
     let f : (ltb n.top l.attempt && begins n.state) ≡ false = subst (λ b. (ltb n.top l.attempt && b) ≡ false) q e in
     let w = probe_own l k h in
-    asked_tidy n l.attempt t.windowed w.0 w.1 (probe_top l k aw h f)
+    asked_tidy n l.attempt t.awake t.windowed w.0 w.1 (probe_top l k t.awake h f)
 
 pub probe_none_is : (n : Node) (t : ℕ) (b : Bool) → b ≡ begins n.state → (ltb n.top t && b) ≡ false → asked_for t n ≡ probed t n
 probe_none_is n t b q e =
@@ -105,10 +105,10 @@ pub probe_is : (n : Node) (t : ℕ) (b : Bool) → b ≡ begins n.state → (ltb
 probe_is n t b q e =
     ap (λ b. asked_for t (cond b (on_top t (Receiving (record { attempt = t; next = 0 })) n) n)) (sym e ∙ ap (λ b. ltb n.top t && b) q)
 
-pub probe_tidy : {i m : ℕ} {n o : Node} {w : World} (l : Letter) → l.kind ≡ Probe → Whole i m (spelt l ∷ []) n o w → Tidy (asked_for l.attempt (on_top l.attempt (Receiving (record { attempt = l.attempt; next = 0 })) n))
-probe_tidy {n = n} l k h =
+pub probe_tidy : {i m : ℕ} {n o : Node} {w : World} (l : Letter) → l.kind ≡ Probe → n.awake ≡ true → Whole i m (spelt l ∷ []) n o w → Tidy (asked_for l.attempt (on_top l.attempt (Receiving (record { attempt = l.attempt; next = 0 })) n))
+probe_tidy {n = n} l k aw h =
     let w = probe_own l k h in
-    asked_tidy (on_top l.attempt (Receiving (record { attempt = l.attempt; next = 0 })) n) l.attempt tt w.0 w.1 (omega arith)
+    asked_tidy (on_top l.attempt (Receiving (record { attempt = l.attempt; next = 0 })) n) l.attempt aw tt w.0 w.1 (omega arith)
 
 pub probe_whole : {i m : ℕ} {n o : Node} {w : World} (l : Letter) (b : Bool) → (ltb n.top l.attempt && b) ≡ true → l.kind ≡ Probe → n.awake ≡ true → Whole i m (spelt l ∷ []) n o w → Whole i m (spelt l ∷ []) (asked_for l.attempt (on_top l.attempt (Receiving (record { attempt = l.attempt; next = 0 })) n)) o (kept 1 l.attempt w)
 probe_whole {n = n} l b e k aw h =
@@ -166,11 +166,11 @@ commit_own l k aw h =
     let t = (h.both.ours.cells.copies aw).1 in
     (f.own ∙ ap (λ z. 1 - z) (sym h.both.ours.me), f.some, omega arith)
 
-pub commit_none_tidy : {i m : ℕ} {n o : Node} {w : World} (l : Letter) → l.kind ≡ Commit → n.awake ≡ true → Whole i m (spelt l ∷ []) n o w → Tidy n → Tidy (asked_for l.attempt n)
-commit_none_tidy {n = n} l k aw h t = let w = commit_own l k aw h in asked_tidy n l.attempt t.windowed w.0 w.1 w.2
+pub commit_none_tidy : {i m : ℕ} {n o : Node} {w : World} (l : Letter) → l.kind ≡ Commit → Whole i m (spelt l ∷ []) n o w → Tidy n → Tidy (asked_for l.attempt n)
+commit_none_tidy {n = n} l k h t = let w = commit_own l k t.awake h in asked_tidy n l.attempt t.awake t.windowed w.0 w.1 w.2
 
 pub commit_tidy : {i m : ℕ} {n o : Node} {w : World} (l : Letter) → l.kind ≡ Commit → n.awake ≡ true → Whole i m (spelt l ∷ []) n o w → Tidy (asked_for l.attempt (runs_again l.attempt false n))
-commit_tidy {n = n} l k aw h = let w = commit_own l k aw h in asked_tidy (runs_again l.attempt false n) l.attempt tt w.0 w.1 w.2
+commit_tidy {n = n} l k aw h = let w = commit_own l k aw h in asked_tidy (runs_again l.attempt false n) l.attempt aw tt w.0 w.1 w.2
 
 pub commit_whole : {i m : ℕ} {n o : Node} {w : World} (l : Letter) (r : Reception) (t : ℕ) → t ≡ l.attempt → n.state ≡ Receiving r → r.attempt ≡ l.attempt → l.kind ≡ Commit → Whole i m (spelt l ∷ []) n o w → MayResume w × Whole i m (spelt l ∷ []) (asked_for l.attempt (runs_again l.attempt false n)) o (resumed t w)
 commit_whole {i = i} {m = m} {n = n} {o = o} {w = w} l r t e s a k h =
@@ -196,7 +196,7 @@ commit_is n t x s e = ap (λ b. asked_for t (cond b (runs_again t false n) n)) (
 
 -- the state changes, and it has no transfer
 pub tidy_to : (n : Node) (s : State) → Windowed s → Tidy n → Tidy (on_state s n)
-tidy_to n s w t = record { windowed = w; asked = t.asked }
+tidy_to n s w t = record { awake = t.awake; windowed = w; asked = t.asked }
 
 -- REFUSE
 pub refused_paused_whole : {i m : ℕ} {x : List (List ℕ)} {n o : Node} {w : World} (z : Pause) → n.state ≡ Paused z → n.awake ≡ true → Whole i m x n o w → MayResume w × Whole i m x (runs_again z.transfer.attempt true n) o (resumed z.transfer.attempt w)
@@ -245,7 +245,7 @@ refuse_pause_is t x n f = ap (λ b. repulse t x b n) (sym (eq-eqb x.transfer.att
 
 -- what runs again has no transfer
 pub again_tidy : (n : Node) (t : ℕ) (b : Bool) (s : State) → Tidy (on_state s n) → Tidy (runs_again t b n)
-again_tidy n t b s h = record { windowed = tt; asked = h.asked }
+again_tidy n t b s h = record { awake = h.awake; windowed = tt; asked = h.asked }
 
 -- in Copying
 pub refuse_copying_whole : {i m : ℕ} {x : List (List ℕ)} {n o : Node} {w : World} (t : ℕ) (c : Transfer) (s : State) → n.state ≡ Copying c → s ≡ refused_in t (Copying c) → n.awake ≡ true → Whole i m x n o w → Whole i m x (on_state s n) o w
@@ -287,24 +287,31 @@ put_back n s e = ap (λ s. on_state s n) (sym e)
 abbrev lessened : ℕ → Transfer → Transfer
 lessened s c = record { attempt = c.attempt; window = dropped (s - c.window.base) c.window; unsent = c.unsent; cursor = c.cursor; sent = c.sent; turns = c.turns; prev = c.prev }
 
-acked_is : (c : Transfer) (s : ℕ) → Sound c.window → c.window.base < s → s ≤ c.window.base + c.window.len → Acked c (lessened s c) s
-acked_is c s so lo hi =
-    record { attempt = refl; base = omega arith; len = omega arith; low = omega arith; old = λ k l. dropped_slot (s - c.window.base) k c.window so (omega arith) ∙ ap (slot c) (omega arith); kept = λ q. refl }
+acked_is : (c : Transfer) (s : ℕ) → c.window.base < s → s ≤ c.window.base + length c.window.pages → Acked c (lessened s c) s
+acked_is c s lo hi =
+    record { attempt = refl; base = omega arith; len = omega (arith, length-drop (s - c.window.base) c.window.pages); low = omega arith; old = λ k l. get_or-drop (s - c.window.base) c.window.pages k 0 ∙ ap (slot c) (omega arith); kept = λ q. refl }
 
 abbrev fits_ack : ℕ → ℕ → Transfer → Bool
-fits_ack t s c = (eqb c.attempt t && ltb c.window.base s) && leb s (c.window.base + c.window.len)
+fits_ack t s c = (eqb c.attempt t && ltb c.window.base s) && leb s (c.window.base + length c.window.pages)
 
-ack_test : (t s : ℕ) (c : Transfer) → fits_ack t s c ≡ true → (c.attempt ≡ t) × (c.window.base < s) × (s ≤ c.window.base + c.window.len)
+ack_test : (t s : ℕ) (c : Transfer) → fits_ack t s c ≡ true → (c.attempt ≡ t) × (c.window.base < s) × (s ≤ c.window.base + length c.window.pages)
 ack_test t s c e =
-    let a = and_parts (eqb c.attempt t && ltb c.window.base s) (leb s (c.window.base + c.window.len)) e in
+    let a = and_parts (eqb c.attempt t && ltb c.window.base s) (leb s (c.window.base + length c.window.pages)) e in
     let b = and_parts (eqb c.attempt t) (ltb c.window.base s) a.0 in
-    (eqb-true c.attempt t b.0, ltb-true c.window.base s b.1, leb-true s (c.window.base + c.window.len) a.1)
+    (eqb-true c.attempt t b.0, ltb-true c.window.base s b.1, leb-true s (c.window.base + length c.window.pages) a.1)
 
 acked_sound : (t s : ℕ) (c : Transfer) → Sound c.window → Sound (acked t s c).window
 acked_sound t s c so = go (fits_ack t s c) refl
   where
     go : (b : Bool) → fits_ack t s c ≡ b → Sound (cond b (lessened s c) c).window
-    go true e = let a = ack_test t s c e in dropped_sound (s - c.window.base) c.window so (let p = a.1 in let q = a.2 in omega arith)
+    go true e =
+        let a = ack_test t s c e in
+        let p = a.1 in
+        let q = a.2 in
+        let l = length-drop (s - c.window.base) c.window.pages in
+        let r = so.room in
+        let b = so.places in
+        record { room = omega arith; places = omega arith }
     go false e = so
 
 acked_attempt : (t s : ℕ) (c : Transfer) → (acked t s c).attempt ≡ c.attempt
@@ -322,34 +329,34 @@ acked_windowed t p (Copying c) w = acked_sound t p c w
 acked_windowed t p (Paused z) w = (acked_sound t p z.transfer w.0, w.1 ∙ sym (acked_attempt t p z.transfer))
 acked_windowed t p (Committed z) w = tt
 
-ack_at : {i m : ℕ} {n o : Node} {w : World} (l : Letter) → l.kind ≡ Ack → Windowed n.state → Whole i m (spelt l ∷ []) n o w → Whole i m (spelt l ∷ []) (on_state (acked_in l.attempt l.place n.state) n) o w
-ack_at {i = i} {m = m} {n = n} {o = o} {w = w} l k wi h = go n.state refl wi
+ack_at : {i m : ℕ} {n o : Node} {w : World} (l : Letter) → l.kind ≡ Ack → Whole i m (spelt l ∷ []) n o w → Whole i m (spelt l ∷ []) (on_state (acked_in l.attempt l.place n.state) n) o w
+ack_at {i = i} {m = m} {n = n} {o = o} {w = w} l k h = go n.state refl
   where
     same : (s : State) → n.state ≡ s → Whole i m (spelt l ∷ []) (on_state s n) o w
     same s e = subst (λ s. Whole i m (spelt l ∷ []) (on_state s n) o w) e h
 
-    copying : (c : Transfer) → n.state ≡ Copying c → Sound c.window → (b : Bool) → fits_ack l.attempt l.place c ≡ b → Whole i m (spelt l ∷ []) (on_state (Copying (cond b (lessened l.place c) c)) n) o w
-    copying c e so true q =
+    copying : (c : Transfer) → n.state ≡ Copying c → (b : Bool) → fits_ack l.attempt l.place c ≡ b → Whole i m (spelt l ∷ []) (on_state (Copying (cond b (lessened l.place c) c)) n) o w
+    copying c e true q =
         let a = ack_test l.attempt l.place c q in
-        alone h (ack_copying (spelt l) c (lessened l.place c) (inl (Memᴰ.head refl)) (ap number k) e (sym a.0) (acked_is c l.place so a.1 a.2) h.both)
-    copying c e so false q = same (Copying c) e
+        alone h (ack_copying (spelt l) c (lessened l.place c) (inl (Memᴰ.head refl)) (ap number k) e (sym a.0) (acked_is c l.place a.1 a.2) h.both)
+    copying c e false q = same (Copying c) e
 
-    paused : (z : Pause) → n.state ≡ Paused z → Sound z.transfer.window → (b : Bool) → fits_ack l.attempt l.place z.transfer ≡ b → Whole i m (spelt l ∷ []) (on_state (Paused (record { transfer = cond b (lessened l.place z.transfer) z.transfer; right = z.right; turns = z.turns })) n) o w
-    paused z e so true q =
+    paused : (z : Pause) → n.state ≡ Paused z → (b : Bool) → fits_ack l.attempt l.place z.transfer ≡ b → Whole i m (spelt l ∷ []) (on_state (Paused (record { transfer = cond b (lessened l.place z.transfer) z.transfer; right = z.right; turns = z.turns })) n) o w
+    paused z e true q =
         let a = ack_test l.attempt l.place z.transfer q in
-        alone h (ack_paused (spelt l) z (record { transfer = lessened l.place z.transfer; right = z.right; turns = z.turns }) (inl (Memᴰ.head refl)) (ap number k) e (sym a.0) (acked_is z.transfer l.place so a.1 a.2) refl h.both)
-    paused z e so false q = same (Paused z) e
+        alone h (ack_paused (spelt l) z (record { transfer = lessened l.place z.transfer; right = z.right; turns = z.turns }) (inl (Memᴰ.head refl)) (ap number k) e (sym a.0) (acked_is z.transfer l.place a.1 a.2) refl h.both)
+    paused z e false q = same (Paused z) e
 
-    go : (s : State) → n.state ≡ s → Windowed s → Whole i m (spelt l ∷ []) (on_state (acked_in l.attempt l.place s) n) o w
-    go Away e v = same Away e
-    go (Receiving r) e v = same (Receiving r) e
-    go (Running r) e v = same (Running r) e
-    go (Copying c) e v = copying c e v (fits_ack l.attempt l.place c) refl
-    go (Paused z) e v = paused z e v.0 (fits_ack l.attempt l.place z.transfer) refl
-    go (Committed z) e v = same (Committed z) e
+    go : (s : State) → n.state ≡ s → Whole i m (spelt l ∷ []) (on_state (acked_in l.attempt l.place s) n) o w
+    go Away e = same Away e
+    go (Receiving r) e = same (Receiving r) e
+    go (Running r) e = same (Running r) e
+    go (Copying c) e = copying c e (fits_ack l.attempt l.place c) refl
+    go (Paused z) e = paused z e (fits_ack l.attempt l.place z.transfer) refl
+    go (Committed z) e = same (Committed z) e
 
-pub ack_whole : {i m : ℕ} {n o : Node} {w : World} (l : Letter) (s : State) → s ≡ acked_in l.attempt l.place n.state → l.kind ≡ Ack → Windowed n.state → Whole i m (spelt l ∷ []) n o w → Whole i m (spelt l ∷ []) (on_state s n) o w
-ack_whole {i = i} {m = m} {n = n} {o = o} {w = w} l s e k wi h = subst⁻¹ (λ s. Whole i m (spelt l ∷ []) (on_state s n) o w) e (ack_at l k wi h)
+pub ack_whole : {i m : ℕ} {n o : Node} {w : World} (l : Letter) (s : State) → s ≡ acked_in l.attempt l.place n.state → l.kind ≡ Ack → Whole i m (spelt l ∷ []) n o w → Whole i m (spelt l ∷ []) (on_state s n) o w
+ack_whole {i = i} {m = m} {n = n} {o = o} {w = w} l s e k h = subst⁻¹ (λ s. Whole i m (spelt l ∷ []) (on_state s n) o w) e (ack_at l k h)
 
 pub ack_tidy : (n : Node) (l : Letter) (s : State) → s ≡ acked_in l.attempt l.place n.state → Tidy n → Tidy (on_state s n)
 ack_tidy n l s e t = tidy_to n s (subst⁻¹ Windowed e (acked_windowed l.attempt l.place n.state t.windowed)) t
@@ -428,7 +435,7 @@ still_none pages l n h = go l.kind
     go Taken = takes l.attempt n.state h
 
 -- LETTERS IN A ROW: one more, or none
-pub hear_more : {pages p k : ℕ} {n x y : Node} → p ≡ pages → Heard pages n x → OneHeard p k x y → Heard pages n y
+pub hear_more : {pages p : ℕ} {b : Bool} {n x y : Node} → p ≡ pages → Heard pages n x → OneHeard p b x y → Heard pages n y
 hear_more {pages = pages} {n = n} e h (nothing q) = subst⁻¹ (λ (z : Node). Heard pages n z) q h
 hear_more {pages = pages} {n = n} {x = x} e h (letter l o q) =
     subst⁻¹ (λ (z : Node). Heard pages n z) (q ∙ ap (λ p. heeded p l x) e) (record { letters = h.letters ++ l ∷ []; hears = more h.letters l x h.hears })

@@ -35,7 +35,7 @@ none_left p q = p.own q ∙ ap rest' (none_there p q)
 pub hearing_self : (pages : ℕ) (n : Node) (w : World) → Hearing pages n w 0 n w
 hearing_self pages n w = record { calmly = calm_self w; rests = λ e. (e, refl); far = refl; more = λ q. refl; count = λ q. omega arith }
 
-pub hearing_then : {pages j k : ℕ} {n m l : Node} {w u v : World} → Hearing pages n w j m u → Hearing pages m u k l v → Hearing pages n w (j + k) l v
+hearing_then : {pages j k : ℕ} {n m l : Node} {w u v : World} → Hearing pages n w j m u → Hearing pages m u k l v → Hearing pages n w (j + k) l v
 hearing_then {w = w} {u = u} {v = v} a b =
     record {
       calmly = calm_then a.calmly b.calmly;
@@ -44,6 +44,10 @@ hearing_then {w = w} {u = u} {v = v} a b =
       more = λ q. b.more q ∙ a.more (b.calmly.rough q);
       count = λ q. let x = b.count q in let y = a.count (b.calmly.rough q) in omega (arith, x, y);
     }
+
+-- by one who counts the pages anew
+pub hearing_next : {pages p j k : ℕ} {n m l : Node} {w u v : World} → Hearing pages n w j m u → p ≡ pages → Hearing p m u k l v → Hearing pages n w (j + k) l v
+hearing_next {k = k} {m = m} {l = l} {u = u} {v = v} a e b = hearing_then a (subst (λ p. Hearing p m u k l v) e b)
 
 -- there was none
 pub none_left_at : {w v : World} {b : Bool} {ws : List ℕ} → Pulled w b ws v → b ≡ false → v.rough ≡ false → row_here v ≡ []
@@ -112,7 +116,3 @@ heard_after {pages = pages} {n = n} {w = w} {u = u} {v = v} s h =
       is = λ q f. h.is q (subst (λ r. length r ≤ 64) (sym s.own) f) ∙ ap (hears pages n) s.own;
       none = λ q f. h.none q (subst (λ r. length r ≤ 64) (sym s.own) f);
     }
-
-pub either_way : {A : Type 0} (b : Bool) → (b ≡ true → A) → (b ≡ false → A) → A
-either_way true f g = f refl
-either_way false f g = g refl

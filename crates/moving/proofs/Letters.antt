@@ -1,6 +1,6 @@
 -- Letters, and what little is left.
 -- Assumes nothing.
-use Rattle.std.proofs.Common.{◌≡◌, ℕ, ◌+◌, ◌-◌, ◌%◌, ◌<◌, ◌≤◌, Bool, true, false, not, ◌⊎◌, List, Some, sym, refl, ap, ◌∙◌, subst, inl, inr, arith}
+use Rattle.std.proofs.Common.{◌≡◌, ℕ, ◌+◌, ◌-◌, ◌%◌, ◌<◌, ◌≤◌, Bool, true, false, not, ◌⊎◌, List, Some, sym, refl, ap, ◌∙◌, subst, inl, inr, arith, length}
 use Rattle.moving.specs.declared.Node.{Node}
 use Rattle.moving.specs.declared.state.Transfer.{Transfer}
 use Rattle.moving.specs.declared.state.Receiving.{Receiving as Reception}
@@ -44,7 +44,7 @@ kinds : {A : Type 0} {k : ℕ} (i j : ℕ) → k ≡ i → (i ≡ j → ⊥) →
 kinds i j a ne b = absurd (ne (sym a ∙ b))
 
 -- a Page: place base + k of the window, with the words of its page unless that was touched since
-pub page_legit : {m : ℕ} {x y : List (List ℕ)} {n o : Node} {u : View} (l : List ℕ) (c : Transfer) (k : ℕ) → moving n.state ≡ Some c → kind_of l ≡ 2 → attempt_of l ≡ c.attempt → k < c.window.len → place_of l ≡ c.window.base + k → page_of l ≡ slot c k → (u.mine.touched (page_of l) ≡ false → words_of l ≡ u.mine.page (page_of l)) → Both m x y n o u → Legit m l o n (flip u)
+pub page_legit : {m : ℕ} {x y : List (List ℕ)} {n o : Node} {u : View} (l : List ℕ) (c : Transfer) (k : ℕ) → moving n.state ≡ Some c → kind_of l ≡ 2 → attempt_of l ≡ c.attempt → k < length c.window.pages → place_of l ≡ c.window.base + k → page_of l ≡ slot c k → (u.mine.touched (page_of l) ≡ false → words_of l ≡ u.mine.page (page_of l)) → Both m x y n o u → Legit m l o n (flip u)
 page_legit {m = m} {n = n} {o = o} {u = u} l c k e kd at lt pl pg ws h =
     record { probe = kinds 2 1 kd (λ z. omega arith); page = λ _. record { own = ap (λ z. z % 2) at ∙ ca.own; some = omega (arith, ca.done); begun = omega (arith, ca.attempt) }; commit = kinds 2 3 kd (λ z. omega arith); ack = kinds 2 4 kd (λ z. omega arith); refuse = kinds 2 5 kd (λ z. omega arith); taken = kinds 2 6 kd (λ z. omega arith); place = λ _. omega (arith, ca.most); given = λ _ r f a b d. absurd (omega (arith, ca.done, ca.attempt)); bears = λ _ d f a. subst (λ d. Bears l d o (flip u)) (some_same (sym e ∙ f)) (record { high = omega arith; slot = λ _. ap (slot c) (idx (place_of l) pl) ∙ sym pg; soon = λ _ _ t. ws t; now = λ _ _ _ _ _ t. ws t }); acked = kinds 2 4 kd (λ z. omega arith) }
   where

@@ -1,6 +1,7 @@
 -- What a quiet turn makes of the line: all that waits is heard, and what waits after it is what the host asks, or its answer.
 -- Assumes nothing.
 use Rattle.std.proofs.Common.{◌≡◌, ℕ, suc, ◌+◌, ◌-◌, ◌%◌, ◌<◌, ◌≤◌, Bool, true, false, cond, not, ◌||◌, ◌⊎◌, List, [], ◌∷◌, ◌++◌, length, get_or, take, drop, Some, None, Option, sym, refl, ap, ◌∙◌, subst, inl, inr, arith, le-ltb, lt-ltb, eq-eqb, ne_eqb, eqb-true, le-leb}
+use Rattle.std.proofs.lemmas.List.{length-drop}
 use borrow.Author.Tests.{lt-leb}
 use Rattle.std.proofs.lemmas.Bool.{cases_Bool, cases_eq, cases_lt, or_parts}
 use Rattle.letter.specs.declared.Kind.{Kind}
@@ -8,9 +9,7 @@ use Rattle.letter.specs.declared.Kind.TheVariants.{Probe, Page, Commit, Ack, Ref
 use Rattle.letter.specs.declared.Letter.{Letter}
 use Rattle.letter.specs.Words.{head}
 use Rattle.letter.proofs.Spell.{head_letter}
-use Rattle.window.specs.declared.Window.{Window}
-use Rattle.window.specs.Pages.{Sound, pages_of}
-use Rattle.window.proofs.Slots.{length_pages}
+use Rattle.window.specs.Pages.{Flying}
 use Rattle.moving.specs.declared.Node.{Node}
 use Rattle.moving.specs.declared.state.Transfer.{Transfer}
 use Rattle.moving.specs.declared.state.Running.{Running as Run}
@@ -19,7 +18,7 @@ use Rattle.moving.specs.declared.state.Committed.{Committed as Commitment}
 use Rattle.moving.specs.declared.state.State.{State}
 use Rattle.moving.specs.declared.state.State.TheVariants.{Away, Receiving, Running, Copying, Paused, Committed}
 use Rattle.moving.specs.Hosts.{World, me}
-use Rattle.moving.specs.Model.{moving, on_state, on_top, asked_for, runs_again, begins, is_next, taken, refused_in, refused, acked_in, heeded, heeded_if, acked, woke, silent, answer_in, Windowed}
+use Rattle.moving.specs.Model.{moving, on_state, on_top, asked_for, runs_again, begins, is_next, taken, refused_in, refused, acked_in, heeded, heeded_if, acked, woke, silent, answer_in}
 use Rattle.moving.specs.Invariant.{View, Both, Whole, Carries, NotReceiving, end, flip, runner, keeper}
 use Rattle.moving.specs.Over.{TurnedOver, ActedOver, RunOver, RunOver.stays, RunOver.begins as starts, CopyOver.on, CopyOver.again, CopyOver.stops, PauseOver.settles, PauseOver.resumes as goes_back, PauseOver.goes}
 use Rattle.moving.specs.Calm.{Calmly, Still, Added, row_here, row_there, heads, hears, page_heads, asked_of, answer_head, reply_to, reply_of, SentIf}
@@ -118,46 +117,44 @@ hears_past pages n t s (p ∷ ps) (x ∷ r) g a f e =
     ∙ hears_past pages n t (s + 1) ps r g a.1 f e1
 
 -- A PROBE AND A WINDOW. The attempt is new and may begin here: it's received, and the whole window is put.
-pub hears_new : (pages : ℕ) (n : Node) (t : ℕ) (v : Window) (r : List (List ℕ)) → pages ≤ 4096 → Sound v → Each pages (pages_of v) → v.base ≡ 0 → n.top < t → begins n.state ≡ true → heads r ≡ asked_of t v
-    → hears pages n r ≡ asked_for t (on_top t (Receiving (record { attempt = t; next = v.base + v.len })) n)
+pub hears_new : (pages : ℕ) (n : Node) (t : ℕ) (v : Flying) (r : List (List ℕ)) → pages ≤ 4096 → Each pages v.pages → v.base ≡ 0 → n.top < t → begins n.state ≡ true → heads r ≡ asked_of t v
+    → hears pages n r ≡ asked_for t (on_top t (Receiving (record { attempt = t; next = v.base + length v.pages })) n)
 unfolding heads
-hears_new pages n t v [] g s a z h b e = absurd (omega (arith, ap length e))
-hears_new pages n t v (x ∷ r) g s a z h b e =
+hears_new pages n t v [] g a z h b e = absurd (omega (arith, ap length e))
+hears_new pages n t v (x ∷ r) g a z h b e =
     let e0 : take 8 x ≡ head Probe t 0 0 = cc in
-    let e1 : heads r ≡ page_heads t v.base (pages_of v) = cc in
-    let k = length_pages v s in
+    let e1 : heads r ≡ page_heads t v.base v.pages = cc in
     let m : Node = asked_for t (on_top t n.state n) in
     let d : heeded pages (said Probe t 0 0 (take 64 (drop 8 x))) n ≡ receiving m t 0 = rw (lt-ltb n.top t h, b) in
     first pages n x r Probe t 0 0 e0 (omega arith) ∙ ap (λ (y : Node). hears pages y r) d
-    ∙ hears_pages pages m t v.base 0 (pages_of v) r g a e1 (omega arith) (omega arith) ∙ ap (λ (y : ℕ). receiving m t (v.base + y)) k
+    ∙ hears_pages pages m t v.base 0 v.pages r g a e1 (omega arith) (omega arith)
 
 -- a probe that begins nothing
 probe_past : (pages : ℕ) (n : Node) (t : ℕ) (us : List ℕ) → t ≤ n.top → heeded pages (said Probe t 0 0 us) n ≡ asked_for t n
 probe_past pages n t us h = rw (le-ltb n.top t h)
 
 -- the attempt is received here: the whole window is put
-pub hears_old : (pages : ℕ) (n : Node) (t next : ℕ) (v : Window) (r : List (List ℕ)) → pages ≤ 4096 → Sound v → Each pages (pages_of v) → n.top ≡ t → n.state ≡ Receiving (record { attempt = t; next = next }) → v.base ≤ next → next ≤ v.base + v.len → heads r ≡ asked_of t v
-    → hears pages n r ≡ asked_for t (on_state (Receiving (record { attempt = t; next = v.base + v.len })) n)
+pub hears_old : (pages : ℕ) (n : Node) (t next : ℕ) (v : Flying) (r : List (List ℕ)) → pages ≤ 4096 → Each pages v.pages → n.top ≡ t → n.state ≡ Receiving (record { attempt = t; next = next }) → v.base ≤ next → next ≤ v.base + length v.pages → heads r ≡ asked_of t v
+    → hears pages n r ≡ asked_for t (on_state (Receiving (record { attempt = t; next = v.base + length v.pages })) n)
 unfolding heads
-hears_old pages n t next v [] g s a h b lo hi e = absurd (omega (arith, ap length e))
-hears_old pages n t next v (x ∷ r) g s a h b lo hi e =
+hears_old pages n t next v [] g a h b lo hi e = absurd (omega (arith, ap length e))
+hears_old pages n t next v (x ∷ r) g a h b lo hi e =
     let e0 : take 8 x ≡ head Probe t 0 0 = cc in
-    let e1 : heads r ≡ page_heads t v.base (pages_of v) = cc in
-    let k = length_pages v s in
+    let e1 : heads r ≡ page_heads t v.base v.pages = cc in
     let m : Node = asked_for t n in
     let d : m ≡ receiving m t next = ap (λ (z : State). on_state z m) b in
     first pages n x r Probe t 0 0 e0 (omega arith) ∙ ap (λ (y : Node). hears pages y r) (probe_past pages n t (take 64 (drop 8 x)) (omega arith) ∙ d)
-    ∙ hears_pages pages m t v.base next (pages_of v) r g a e1 (omega arith) (omega arith) ∙ ap (λ (y : ℕ). receiving m t (v.base + y)) k
+    ∙ hears_pages pages m t v.base next v.pages r g a e1 (omega arith) (omega arith)
 
 -- the attempt is over here: it was asked for, and that is all
-pub hears_dead : (pages : ℕ) (n : Node) (t : ℕ) (v : Window) (r : List (List ℕ)) → pages ≤ 4096 → Each pages (pages_of v) → t ≤ n.top → NotReceiving t n → heads r ≡ asked_of t v → hears pages n r ≡ asked_for t n
+pub hears_dead : (pages : ℕ) (n : Node) (t : ℕ) (v : Flying) (r : List (List ℕ)) → pages ≤ 4096 → Each pages v.pages → t ≤ n.top → NotReceiving t n → heads r ≡ asked_of t v → hears pages n r ≡ asked_for t n
 unfolding heads
 hears_dead pages n t v [] g a h f e = absurd (omega (arith, ap length e))
 hears_dead pages n t v (x ∷ r) g a h f e =
     let e0 : take 8 x ≡ head Probe t 0 0 = cc in
-    let e1 : heads r ≡ page_heads t v.base (pages_of v) = cc in
+    let e1 : heads r ≡ page_heads t v.base v.pages = cc in
     first pages n x r Probe t 0 0 e0 (omega arith) ∙ ap (λ (y : Node). hears pages y r) (probe_past pages n t (take 64 (drop 8 x)) h)
-    ∙ hears_past pages (asked_for t n) t v.base (pages_of v) r g a f e1
+    ∙ hears_past pages (asked_for t n) t v.base v.pages r g a f e1
 
 -- ONE LETTER ALONE, OR NONE
 -- a row of none leaves the node
@@ -187,7 +184,7 @@ hears_refuse pages n t r e = (alone pages n Refuse t 0 r e).1
 -- A WHOLE WINDOW IS ACKNOWLEDGED: it's empty after that, begins where it ended, and all else is as it was.
 pub record Emptied (c d : Transfer) : Type 0 where
   pub attempt : d.attempt ≡ c.attempt
-  pub empty : d.window.len ≡ 0
+  pub empty : length d.window.pages ≡ 0
   pub base : d.window.base ≡ end c
   pub ends : end d ≡ end c
   pub unsent : d.unsent ≡ c.unsent
@@ -195,17 +192,17 @@ pub record Emptied (c d : Transfer) : Type 0 where
   pub sent : d.sent ≡ c.sent
   pub turns : d.turns ≡ c.turns
   pub prev : d.prev ≡ c.prev
-  pub same : c.window.len ≡ 0 → d ≡ c
+  pub same : length c.window.pages ≡ 0 → d ≡ c
 
 -- that is so of each transfer
 pub acked_all : (c : Transfer) → Emptied c (acked c.attempt (end c) c)
 acked_all c =
-    elim (cases_eq c.window.len 0) [
+    elim (cases_eq (length c.window.pages) 0) [
       | inl q ↦
           rw (eq-eqb c.attempt c.attempt refl, le-ltb c.window.base (end c) (omega arith)) (record { attempt = refl; empty = q; base = omega arith; ends = refl; unsent = refl; cursor = refl; sent = refl; turns = refl; prev = refl; same = λ _. refl })
       | inr q ↦
           rw (eq-eqb c.attempt c.attempt refl, lt-ltb c.window.base (end c) (omega arith), le-leb (end c) (end c) (omega arith))
-          (record { attempt = refl; empty = omega arith; base = omega arith; ends = omega arith; unsent = refl; cursor = refl; sent = refl; turns = refl; prev = refl; same = λ e. absurd (q e) })
+          (record { attempt = refl; empty = omega (arith, length-drop (end c - c.window.base) c.window.pages); base = omega arith; ends = omega (arith, length-drop (end c - c.window.base) c.window.pages); unsent = refl; cursor = refl; sent = refl; turns = refl; prev = refl; same = λ e. absurd (q e) })
     ]
 
 -- A QUIET TURN
@@ -279,8 +276,8 @@ moving_tries (Paused y) x e = ap (λ (c : Transfer). Some c.attempt) (same e)
 moving_tries (Committed y) x e = nothing e
 
 -- n asks with a probe and its window
-told_moving : {m : ℕ} {n o : Node} {u : View} (x : Transfer) (r : List (List ℕ)) → Both m [] [] o n u → u.here ≡ false → o.awake ≡ true → moving n.state ≡ Some x → Sound x.window → heads r ≡ asked_of x.attempt x.window → Told n o (hears u.pages o r)
-told_moving {m = m} {n = n} {o = o} {u = u} x r h e aw mv s q = go o.state refl
+told_moving : {m : ℕ} {n o : Node} {u : View} (x : Transfer) (r : List (List ℕ)) → Both m [] [] o n u → u.here ≡ false → o.awake ≡ true → moving n.state ≡ Some x → heads r ≡ asked_of x.attempt x.window → Told n o (hears u.pages o r)
+told_moving {m = m} {n = n} {o = o} {u = u} x r h e aw mv q = go o.state refl
   where
     c : Carries m x o (flip u)
     c = h.yours.copy.carries x mv
@@ -288,8 +285,8 @@ told_moving {m = m} {n = n} {o = o} {u = u} x r h e aw mv s q = go o.state refl
     copies : (o.took ≡ u.mine.cell 0) × (o.top ≡ u.mine.cell 1) × (o.committed ≡ u.mine.cell 2)
     copies = h.ours.cells.copies aw
 
-    ways : Each u.pages (pages_of x.window)
-    ways = each u.pages (pages_of x.window) (λ k l. c.ways k (omega (arith, length_pages x.window s)))
+    ways : Each u.pages x.window.pages
+    ways = each u.pages x.window.pages (λ k l. c.ways k l)
 
     most : o.top ≤ x.attempt
     most = let k = h.yours.order.later (ap not e) in let a = c.attempt in let b = copies.1 in omega arith
@@ -297,7 +294,7 @@ told_moving {m = m} {n = n} {o = o} {u = u} x r h e aw mv s q = go o.state refl
     new : o.top < x.attempt → begins o.state ≡ true → Told n o (hears u.pages o r)
     new l b =
         let k = copies.1 in
-        let d = hears_new u.pages o x.attempt x.window r h.ours.fit.few s ways (c.base (omega arith)) l b q in
+        let d = hears_new u.pages o x.attempt x.window r h.ours.fit.few ways (c.base (omega arith)) l b q in
         puts x mv (ap (λ (y : Node). y.state) d) (ap (λ (y : Node). y.asked) d)
 
     dead : x.attempt ≤ o.top → o.state ≡ Away → Told n o (hears u.pages o r)
@@ -321,7 +318,7 @@ told_moving {m = m} {n = n} {o = o} {u = u} x r h e aw mv s q = go o.state refl
               let g = most in
               let i : z.attempt ≡ x.attempt = omega arith in
               let b = c.under z f i in
-              let d = hears_old u.pages o x.attempt z.next x.window r h.ours.fit.few s ways (omega arith) (f ∙ ap (λ (t : ℕ). Receiving (record { attempt = t; next = z.next })) i) b.low b.high q in
+              let d = hears_old u.pages o x.attempt z.next x.window r h.ours.fit.few ways (omega arith) (f ∙ ap (λ (t : ℕ). Receiving (record { attempt = t; next = z.next })) i) b.low b.high q in
               puts x mv (ap (λ (y : Node). y.state) d) (ap (λ (y : Node). y.asked) d)
         ]
     go (Running z) f = no (h.ours.guest.running z f).here e
@@ -400,16 +397,16 @@ told_committed {m = m} {n = n} {o = o} {u = u} x r h e aw mv q = go o.state refl
         let sd = h.ours.fit.sides in absurd (omega arith)
 
 -- whatever n asks
-told : {m : ℕ} {n o : Node} {u : View} (r : List (List ℕ)) → Both m [] [] o n u → u.here ≡ false → o.awake ≡ true → Windowed n.state → HasAsked n.state r → Told n o (hears u.pages o r)
+told : {m : ℕ} {n o : Node} {u : View} (r : List (List ℕ)) → Both m [] [] o n u → u.here ≡ false → o.awake ≡ true → HasAsked n.state r → Told n o (hears u.pages o r)
 told {n = n} {o = o} {u = u} r h e aw = go n.state refl
   where
-    go : (s : State) → n.state ≡ s → Windowed s → HasAsked s r → Told n o (hears u.pages o r)
-    go Away f a b = nothing b
-    go (Receiving x) f a b = nothing b
-    go (Running x) f a b = nothing b
-    go (Copying x) f a b = told_moving x r h e aw (ap moving f) a (sym (same b))
-    go (Paused x) f a b = told_moving x.transfer r h e aw (ap moving f) a.0 (sym (same b))
-    go (Committed x) f a b = told_committed x r h e aw f (sym (same b))
+    go : (s : State) → n.state ≡ s → HasAsked s r → Told n o (hears u.pages o r)
+    go Away f b = nothing b
+    go (Receiving x) f b = nothing b
+    go (Running x) f b = nothing b
+    go (Copying x) f b = told_moving x r h e aw (ap moving f) (sym (same b))
+    go (Paused x) f b = told_moving x.transfer r h e aw (ap moving f) (sym (same b))
+    go (Committed x) f b = told_committed x r h e aw f (sym (same b))
 
 -- what a host does by itself, if its state is known
 acts_as : {w v : World} {n m : Node} (u : TurnedOver w n m v) (s : State) → u.heard.state ≡ s → ActedOver w.pages u.most (me u.quiet).told s (on_state Away u.heard) u.quiet u.acted u.done
@@ -434,9 +431,9 @@ refuse_reply : (n : Node) (t : ℕ) → n.asked ≡ Some t → n.took < t → re
 refuse_reply n t e l = rw (e, lt-leb t n.took l)
 
 -- THE ANSWER. It is asked, nothing waits for n, and after the turn one answer does: that the whole window is put, or that the attempt is over.
-pub answers : {i m : ℕ} {w v : World} {n o l : Node} (u : TurnedOver w o l v) → Whole i m [] o n w → length (row_here w) ≤ 64 → w.last ≡ 1 - w.turn → v.rough ≡ false → v.wish ≡ true → o.awake ≡ true → Windowed n.state → row_there w ≡ [] → HasAsked n.state (row_here w)
+pub answers : {i m : ℕ} {w v : World} {n o l : Node} (u : TurnedOver w o l v) → Whole i m [] o n w → length (row_here w) ≤ 64 → w.last ≡ 1 - w.turn → v.rough ≡ false → v.wish ≡ true → o.awake ≡ true → row_there w ≡ [] → HasAsked n.state (row_here w)
     → Acknowledged n l (row_there v) ⊎ (Refused n (row_there v) × (With n o → ⊥))
-answers {i = i} {m = m} {w = w} {v = v} {n = n} {o = o} {l = l} u h few g q wi aw ww em ha = go (subst (Told n o) (sym (c.heard aw)) (told (row_here w) h.both away aw ww ha))
+answers {i = i} {m = m} {w = w} {v = v} {n = n} {o = o} {l = l} u h few g q wi aw em ha = go (subst (Told n o) (sym (c.heard aw)) (told (row_here w) h.both away aw ha))
   where
     c : Quiet u
     c = quiet u h few q
@@ -460,14 +457,14 @@ answers {i = i} {m = m} {w = w} {v = v} {n = n} {o = o} {l = l} u h few g q wi a
         let j = eqb-true u.quiet.last u.quiet.turn b in absurd (omega arith)
 
 -- one of the two
-pub answered : {i m : ℕ} {w v : World} {n o l : Node} (u : TurnedOver w o l v) → Whole i m [] o n w → length (row_here w) ≤ 64 → w.last ≡ 1 - w.turn → v.rough ≡ false → v.wish ≡ true → o.awake ≡ true → Windowed n.state → row_there w ≡ [] → HasAsked n.state (row_here w)
+pub answered : {i m : ℕ} {w v : World} {n o l : Node} (u : TurnedOver w o l v) → Whole i m [] o n w → length (row_here w) ≤ 64 → w.last ≡ 1 - w.turn → v.rough ≡ false → v.wish ≡ true → o.awake ≡ true → row_there w ≡ [] → HasAsked n.state (row_here w)
     → Acknowledged n l (row_there v) ⊎ Refused n (row_there v)
-answered u h few g q wi aw ww em ha = elim (answers u h few g q wi aw ww em ha) [ inl a ↦ inl a | inr a ↦ inr a.0 ]
+answered u h few g q wi aw em ha = elim (answers u h few g q wi aw em ha) [ inl a ↦ inl a | inr a ↦ inr a.0 ]
 
 -- if o was with n in its attempt, the window is put
-pub acknowledged : {i m : ℕ} {w v : World} {n o l : Node} (u : TurnedOver w o l v) → Whole i m [] o n w → length (row_here w) ≤ 64 → w.last ≡ 1 - w.turn → v.rough ≡ false → v.wish ≡ true → o.awake ≡ true → Windowed n.state → row_there w ≡ [] → HasAsked n.state (row_here w)
+pub acknowledged : {i m : ℕ} {w v : World} {n o l : Node} (u : TurnedOver w o l v) → Whole i m [] o n w → length (row_here w) ≤ 64 → w.last ≡ 1 - w.turn → v.rough ≡ false → v.wish ≡ true → o.awake ≡ true → row_there w ≡ [] → HasAsked n.state (row_here w)
     → With n o → Acknowledged n l (row_there v)
-acknowledged u h few g q wi aw ww em ha k = elim (answers u h few g q wi aw ww em ha) [ inl a ↦ a | inr a ↦ absurd (a.1 k) ]
+acknowledged u h few g q wi aw em ha k = elim (answers u h few g q wi aw em ha) [ inl a ↦ a | inr a ↦ absurd (a.1 k) ]
 
 -- WHO HAS THE GUEST
 -- who runs the guest after its act and doesn't copy it, ran it before, and knows of nobody who wants it elsewhere
@@ -590,7 +587,7 @@ pub record Cleared {w v : World} {n l : Node} (u : TurnedOver w n l v) (x : Tran
   pub asks : 252 ≤ u.most
   pub heard : u.heard ≡ on_state (acked_in x.attempt (end x) n.state) n
   pub moves : moving u.heard.state ≡ Some (cleared x)
-  pub empty : (y : Transfer) → moving u.heard.state ≡ Some y → y.window.len ≡ 0
+  pub empty : (y : Transfer) → moving u.heard.state ≡ Some y → length y.window.pages ≡ 0
   pub copying : (y : Transfer) → n.state ≡ Copying y → u.heard.state ≡ Copying (cleared x)
   pub paused : (y : Pause) → n.state ≡ Paused y → u.heard.state ≡ Paused (record { transfer = cleared x; right = y.right; turns = y.turns })
   pub with : With l o
@@ -603,7 +600,7 @@ clears {w = w} {v = v} {n = n} {o = o} {l = l} u h few q aw a =
       asks = let k = u.cost aw c.early in let j = one in omega arith;
       heard = heard;
       moves = moves;
-      empty = λ y e. ap (λ (d : Transfer). d.window.len) (same (sym e ∙ moves)) ∙ (acked_all x).empty;
+      empty = λ y e. ap (λ (d : Transfer). length d.window.pages) (same (sym e ∙ moves)) ∙ (acked_all x).empty;
       copying = λ y e. state ∙ ap (acked_in x.attempt (end x)) e ∙ ap (λ (d : Transfer). Copying (acked x.attempt (end x) d)) (same (sym (ap moving e) ∙ a.moves));
       paused = λ y e. state ∙ ap (acked_in x.attempt (end x)) e ∙ ap (λ (d : Transfer). Paused (record { transfer = acked x.attempt (end x) d; right = y.right; turns = y.turns })) (same (sym (ap moving e) ∙ a.moves));
       with = in_step x.attempt (record { attempt = x.attempt; next = end x }) tried a.there refl;

@@ -1,6 +1,6 @@
 -- What is done keeps both sides right, at what a host sees.
 -- Assumes nothing.
-use Rattle.std.proofs.Common.{◌≡◌, ℕ, ◌+◌, ◌-◌, ◌%◌, ◌<◌, ◌≤◌, Bool, true, false, cond, not, ◌&&◌, ◌||◌, T, eqb, ◌⊎◌, List, [], Some, None, sym, refl, ap, ◌∙◌, subst, ap₂, inl, inr, arith, eq-eqb, eqb-true}
+use Rattle.std.proofs.Common.{◌≡◌, ℕ, ◌+◌, ◌-◌, ◌%◌, ◌<◌, ◌≤◌, Bool, true, false, cond, not, ◌&&◌, ◌||◌, T, eqb, ◌⊎◌, List, [], Some, None, sym, refl, ap, ◌∙◌, subst, ap₂, inl, inr, arith, eq-eqb, eqb-true, length}
 use borrow.Author.Tests.{both_ways, not-true, eqb-false}
 use Rattle.moving.specs.declared.Node.{Node}
 use Rattle.moving.specs.declared.state.Transfer.{Transfer}
@@ -212,7 +212,7 @@ settled t n = record { me = n.me; awake = n.awake; took = n.took; top = n.top; c
 committed_same : {a b : Commitment} → Committed a ≡ Committed b → a ≡ b
 committed_same e = cc
 
-pub commit_it : {m : ℕ} {x y : List (List ℕ)} {n o : Node} {u : View} (z : Pause) → n.state ≡ Paused z → z.transfer.window.len ≡ 0 → z.transfer.cursor ≡ u.pages → Both m x y n o u → Both m x y (settled z.transfer.attempt n) o (on_mine (cell_at 2 z.transfer.attempt u.mine) u)
+pub commit_it : {m : ℕ} {x y : List (List ℕ)} {n o : Node} {u : View} (z : Pause) → n.state ≡ Paused z → length z.transfer.window.pages ≡ 0 → z.transfer.cursor ≡ u.pages → Both m x y n o u → Both m x y (settled z.transfer.attempt n) o (on_mine (cell_at 2 z.transfer.attempt u.mine) u)
 commit_it {m = m} {x = x} {n = n} {o = o} {u = u} z e len cur h =
     record { ours = record { me = h.ours.me; fit = h.ours.fit; guest = record { told = h.ours.guest.told; runner = λ a b. no a st.runs; keeper = λ _ _ _ _. refl; running = λ x f. clash f tt; copying = λ x f. clash f tt; paused = λ x f. clash f tt; committed = λ y f a b. st; receiving = λ x f. clash f tt }; cells = record { copies = λ a. let w = h.ours.cells.copies a in (w.0, w.1, refl); asleep = λ a. clash (sym (h.ours.cells.asleep a) ∙ e) tt; took = h.ours.cells.took; done = let w = k.attempt in omega arith; parity = λ _. k.own; most = h.ours.cells.most; committed = λ y f. let w = k.done in subst (λ y. (y.attempt ≡ u.mine.cell 1) × (c.attempt ≡ u.mine.cell 1) × (0 < y.attempt)) (committed_same f) (k.attempt, k.attempt, omega arith); receiving = λ x f. clash f tt }; order = record { later = h.ours.order.later; had = h.ours.order.had; begun = begun; untaken = λ _ _ _. let w = k.took in let v = k.attempt in omega arith }; commits = λ r f a b. record { runs = st.runs; lost = st.lost; here = st.here; wish = st.wish; same = λ p l. let w = low p l in (k.under r f (a ∙ sym k.attempt)).same p l w.0 w.1 (λ q. none q) ∙ st.same p l }; copy = record { carries = λ c f. none_some f; below = λ x f. clash f tt }; letters = λ l i. mine l (h.ours.letters l i) }; yours = record { me = h.yours.me; fit = h.yours.fit; guest = h.yours.guest; cells = h.yours.cells; order = h.yours.order; commits = λ r f. clash f tt; copy = record { carries = λ d f. let w = h.yours.copy.carries d f in record { attempt = w.attempt; own = w.own; done = w.done; took = w.took; most = w.most; ways = w.ways; base = w.base; every = w.every; under = λ s g. clash g tt }; below = h.yours.copy.below }; letters = λ l i. theirs l (h.yours.letters l i) } }
   where
@@ -375,7 +375,7 @@ refused_copying {m = m} {n = n} {o = o} {u = u} c e aw h =
 copying_same : {a b : Transfer} → Copying a ≡ Copying b → a ≡ b
 copying_same e = cc
 
-pub attempt_it : {m : ℕ} {x y : List (List ℕ)} {n o : Node} {u : View} (z : Run) (d : Transfer) → n.state ≡ Running z → z.wanted ≡ true → n.awake ≡ true → u.mine.cell 1 < d.attempt → d.attempt % 2 ≡ u.me → d.attempt ≤ m → d.window.len ≡ 0 → d.window.base ≡ 0 → ((p : ℕ) → p < u.pages → unsent d p ≡ true) → Both m x y n o u → Both m x y (on_top d.attempt (Copying d) n) o (on_mine (cell_at 1 d.attempt u.mine) u)
+pub attempt_it : {m : ℕ} {x y : List (List ℕ)} {n o : Node} {u : View} (z : Run) (d : Transfer) → n.state ≡ Running z → z.wanted ≡ true → n.awake ≡ true → u.mine.cell 1 < d.attempt → d.attempt % 2 ≡ u.me → d.attempt ≤ m → length d.window.pages ≡ 0 → d.window.base ≡ 0 → ((p : ℕ) → p < u.pages → unsent d p ≡ true) → Both m x y n o u → Both m x y (on_top d.attempt (Copying d) n) o (on_mine (cell_at 1 d.attempt u.mine) u)
 attempt_it {m = m} {n = n} {o = o} {u = u} z d e wa aw gt own le len base all h =
     record { ours = record { me = h.ours.me; fit = h.ours.fit; guest = record { told = h.ours.guest.told; runner = λ _ _. refl; keeper = λ a. no g.runs a; running = λ x f. clash f tt; copying = λ c f. record { runs = g.runs; here = g.here; wish = (g.wanted wa).0; told = (g.wanted wa).1 }; paused = λ x f. clash f tt; committed = λ x f. clash f tt; receiving = λ x f. clash f tt }; cells = record { copies = λ a. let w = h.ours.cells.copies a in (w.0, refl, w.2); asleep = λ a. no aw a; took = let w = h.ours.cells.took in omega arith; done = let w = h.ours.cells.done in omega arith; parity = h.ours.cells.parity; most = le; committed = λ x f. clash f tt; receiving = λ x f. clash f tt }; order = record { later = λ a. omega (arith, later); had = h.ours.order.had; begun = h.ours.order.begun; untaken = λ _ _ w. let v = h.ours.cells.done in absurd (omega arith) }; commits = λ r f a b. let v = h.ours.cells.done in absurd (omega arith); copy = record { carries = carries; below = λ x f. clash f tt }; letters = λ l i. mine l (h.ours.letters l i) }; yours = record { me = h.yours.me; fit = h.yours.fit; guest = h.yours.guest; cells = h.yours.cells; order = record { later = λ b. no b away; had = λ b. no b away; begun = let w = h.yours.order.begun in omega arith; untaken = λ b. no b away }; commits = λ s f. clash f tt; copy = record { carries = λ c f. no (mover c h.yours f).0 away; below = h.yours.copy.below }; letters = λ l i. theirs l (h.yours.letters l i) } }
   where

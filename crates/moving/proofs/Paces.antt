@@ -1,6 +1,7 @@
 -- How fast a guest is moved: what a turn makes of the counts of a pass, and what a calm round does.
 -- Assumes nothing.
-use Rattle.std.proofs.Common.{◌≡◌, ℕ, ◌+◌, ◌-◌, ◌*◌, ◌%◌, ◌<◌, ◌≤◌, min, Bool, true, false, cond, ◌&&◌, ◌||◌, eqb, ltb, leb, ◌⊎◌, List, Some, None, sym, refl, ap, ◌∙◌, subst, inl, inr, arith}
+use Rattle.std.proofs.Common.{◌≡◌, ℕ, ◌+◌, ◌-◌, ◌*◌, ◌%◌, ◌<◌, ◌≤◌, min, Bool, true, false, cond, ◌&&◌, ◌||◌, eqb, ltb, leb, ◌⊎◌, List, Some, None, sym, refl, ap, ◌∙◌, subst, inl, inr, arith, length}
+use Rattle.std.proofs.lemmas.List.{length_push}
 use mathlib.Core.Path.{subst⁻¹}
 use Rattle.std.proofs.lemmas.Bool.{and_parts, and_cases, cases_eq, cases_lt, cond_both, eq-eqb, ne_eqb, eqb-true, eqb-false, le-leb}
 use Rattle.pageset.specs.Count.{count, count_from}
@@ -26,20 +27,20 @@ use Rattle.moving.specs.Acted.{New, Hears, Heard}
 use Rattle.moving.specs.Over as played
 use Rattle.moving.specs.Over.{RunOver, CopyOver, PauseOver, ActedOver, TurnedOver}
 use Rattle.moving.specs.Calm.{Rises, Within, todo, Went}
-use Rattle.moving.specs.Time.{PassWell, PauseWell, Paced, Pace, rest, CopyPace, PausePace, InPace, tries}
+use Rattle.moving.specs.Time.{turns_in, past, PassWell, PauseWell, Paced, Pace, rest, CopyPace, PausePace, InPace, tries}
 use Rattle.moving.proofs.Moves.{clash, none_some}
 
 -- A PART OF A PASS, from x to y: which counts stay, and which grow.
 pub record Passes (x y : Transfer) : Type 0 where
   pub attempt : y.attempt ≡ x.attempt
   pub turns : y.turns ≡ x.turns
-  pub prev : y.prev ≡ x.prev
+  pub prev : past y ≡ past x
   pub cursor : x.cursor ≤ y.cursor
   pub sent : x.sent ≤ x.cursor → y.sent ≤ y.cursor
   pub below : ((q : ℕ) → q < x.cursor → unsent x q ≡ false) → (q : ℕ) → q < y.cursor → unsent y q ≡ false
-  pub more : x.window.len ≤ y.window.len
-  pub grows : y.window.len + x.cursor ≤ x.window.len + y.cursor
-  pub window : x.sent ≤ x.cursor → y.cursor ≤ 4096 → y.window.len + x.sent ≡ x.window.len + y.sent
+  pub more : length x.window.pages ≤ length y.window.pages
+  pub grows : length y.window.pages + x.cursor ≤ length x.window.pages + y.cursor
+  pub window : x.sent ≤ x.cursor → y.cursor ≤ 4096 → length y.window.pages + x.sent ≡ length x.window.pages + y.sent
 
 -- nothing is looked at
 passes_self : (x : Transfer) → Passes x x
@@ -49,25 +50,25 @@ passes_self x =
 -- one page more is looked at
 passes_look : {x y z : Transfer} {b : Bool} → Passes x y → Looked b y z → Passes x z
 passes_look {x = x} {y = y} {z = z} {b = b} p l =
-    record { attempt = l.attempt ∙ p.attempt; turns = l.turns ∙ p.turns; prev = l.prev ∙ p.prev; cursor = let a = p.cursor in let c = l.cursor in omega arith; sent = λ h. let a = p.sent h in let c = l.cursor in let d = fewer in omega arith; below = λ h q k. gone (p.below h) q k; more = let a = p.more in let d = longer.0 in omega arith; grows = let a = p.grows in let c = l.cursor in let d = longer.1 in omega arith; window = λ h k. let c = l.cursor in let a = p.sent h in let d = p.window h (omega arith) in let e = alike (omega arith) in omega arith }
+    record { attempt = l.attempt ∙ p.attempt; turns = l.turns ∙ p.turns; prev = ap turns_in l.prev ∙ p.prev; cursor = let a = p.cursor in let c = l.cursor in omega arith; sent = λ h. let a = p.sent h in let c = l.cursor in let d = fewer in omega arith; below = λ h q k. gone (p.below h) q k; more = let a = p.more in let d = longer.0 in omega arith; grows = let a = p.grows in let c = l.cursor in let d = longer.1 in omega arith; window = λ h k. let c = l.cursor in let a = p.sent h in let d = p.window h (omega arith) in let e = alike (omega arith) in omega arith }
   where
-    len : z.window.len ≡ cond (due b y) (y.window.len + 1) y.window.len
-    len = ap (λ w. w.len) l.window ∙ ways (due b y)
+    len : length z.window.pages ≡ cond (due b y) (length y.window.pages + 1) (length y.window.pages)
+    len = ap (λ w. length w.pages) l.window ∙ ways (due b y)
       where
-        ways : (d : Bool) → (cond d (pushed y.cursor y.window) y.window).len ≡ cond d (y.window.len + 1) y.window.len
-        ways true = refl
+        ways : (d : Bool) → length (cond d (pushed y.cursor y.window) y.window).pages ≡ cond d (length y.window.pages + 1) (length y.window.pages)
+        ways true = length_push y.window.pages y.cursor
         ways false = refl
 
     fewer : z.sent ≤ y.sent + 1
     fewer = subst⁻¹ (λ k. k ≤ y.sent + 1) l.sent (cond_both (due b y) (min (y.sent + 1) 4294967295) y.sent (λ k. k ≤ y.sent + 1) (λ e. omega arith) (λ e. omega arith))
 
-    longer : (y.window.len ≤ z.window.len) × (z.window.len ≤ y.window.len + 1)
-    longer = subst⁻¹ (λ k. (y.window.len ≤ k) × (k ≤ y.window.len + 1)) len (cond_both (due b y) (y.window.len + 1) y.window.len (λ k. (y.window.len ≤ k) × (k ≤ y.window.len + 1)) (λ e. omega arith) (λ e. omega arith))
+    longer : (length y.window.pages ≤ length z.window.pages) × (length z.window.pages ≤ length y.window.pages + 1)
+    longer = subst⁻¹ (λ k. (length y.window.pages ≤ k) × (k ≤ length y.window.pages + 1)) len (cond_both (due b y) (length y.window.pages + 1) (length y.window.pages) (λ k. (length y.window.pages ≤ k) × (k ≤ length y.window.pages + 1)) (λ e. omega arith) (λ e. omega arith))
 
-    alike : y.sent ≤ 4096 → z.window.len + y.sent ≡ y.window.len + z.sent
+    alike : y.sent ≤ 4096 → length z.window.pages + y.sent ≡ length y.window.pages + z.sent
     alike h = rw (len, l.sent) (ways (due b y))
       where
-        ways : (d : Bool) → cond d (y.window.len + 1) y.window.len + y.sent ≡ y.window.len + cond d (min (y.sent + 1) 4294967295) y.sent
+        ways : (d : Bool) → cond d (length y.window.pages + 1) (length y.window.pages) + y.sent ≡ length y.window.pages + cond d (min (y.sent + 1) 4294967295) y.sent
         ways true = omega arith
         ways false = refl
 
@@ -84,7 +85,7 @@ looks_passes (more bs b y z l k) = passes_look (looks_passes l) k
 -- What a turn of a pass leaves, and what it adds to.
 pub gone_counts : {pages most : ℕ} {x y : Transfer} → GoneOn pages most x y → Passes x y
 gone_counts {x = x} g =
-    elim (cases_lt 0 x.window.len) [ inl l ↦ subst⁻¹ (λ z. Passes x z) (g.same l) (passes_self x) | inr l ↦ looks_passes (g.goes (omega arith)).looks ]
+    elim (cases_lt 0 (length x.window.pages)) [ inl l ↦ subst⁻¹ (λ z. Passes x z) (g.same l) (passes_self x) | inr l ↦ looks_passes (g.goes (omega arith)).looks ]
 
 -- What holds of a pass holds after one more turn of it.
 pub gone_well : {pages most : ℕ} {x y : Transfer} → GoneOn pages most x y → Within pages x y → PassWell pages x → PassWell pages y
@@ -106,12 +107,12 @@ gone_sent g i few h =
     omega arith
 
 -- If nothing was on its way, and there were asks enough, 248 pages were looked at or 62 were sent, or all were looked at.
-pub gone_progress : {pages most : ℕ} {x y : Transfer} → GoneOn pages most x y → x.window.len ≡ 0 → 251 ≤ most → pages ≤ 4096 → PassWell pages x → y.cursor < pages → x.cursor + 3 * x.sent + 248 ≤ y.cursor + 3 * y.sent
+pub gone_progress : {pages most : ℕ} {x y : Transfer} → GoneOn pages most x y → length x.window.pages ≡ 0 → 251 ≤ most → pages ≤ 4096 → PassWell pages x → y.cursor < pages → x.cursor + 3 * x.sent + 248 ≤ y.cursor + 3 * y.sent
 gone_progress {pages = pages} {most = most} {x = x} {y = y} g z asks few h lt =
     let p = gone_counts g in
     far (p.window h.sent (omega arith)) p.grows (g.goes z).ends
   where
-    far : y.window.len + x.sent ≡ x.window.len + y.sent → y.window.len + x.cursor ≤ x.window.len + y.cursor → (x.cursor + (most - 1) < y.cursor + 2 * y.window.len + 3) ⊎ ((y.window.len ≡ 62) ⊎ (pages ≤ y.cursor)) → x.cursor + 3 * x.sent + 248 ≤ y.cursor + 3 * y.sent
+    far : length y.window.pages + x.sent ≡ length x.window.pages + y.sent → length y.window.pages + x.cursor ≤ length x.window.pages + y.cursor → (x.cursor + (most - 1) < y.cursor + 2 * length y.window.pages + 3) ⊎ ((length y.window.pages ≡ 62) ⊎ (pages ≤ y.cursor)) → x.cursor + 3 * x.sent + 248 ≤ y.cursor + 3 * y.sent
     far a b (inl e) = omega arith
     far a b (inr (inl e)) = omega arith
     far a b (inr (inr e)) = absurd (omega arith)
@@ -123,7 +124,7 @@ pub record Counts (x y : Transfer) : Type 0 where
   pub cursor : y.cursor ≡ x.cursor
   pub sent : y.sent ≡ x.sent
   pub turns : y.turns ≡ x.turns
-  pub prev : y.prev ≡ x.prev
+  pub prev : past y ≡ past x
 
 -- A transfer that the state h has is that of s, with the same counts.
 pub record Kin (s h : State) : Type 0 where
@@ -142,7 +143,7 @@ counts_then a b =
 -- an acknowledgement changes the window alone
 counts_acked : (t p : ℕ) (x : Transfer) → Counts x (acked t p x)
 counts_acked t p x =
-    cond_both ((eqb x.attempt t && ltb x.window.base p) && leb p (x.window.base + x.window.len)) (record { attempt = x.attempt; window = dropped (p - x.window.base) x.window; unsent = x.unsent; cursor = x.cursor; sent = x.sent; turns = x.turns; prev = x.prev }) x (λ y. Counts x y) (λ e. record { attempt = refl; unsent = refl; cursor = refl; sent = refl; turns = refl; prev = refl }) (λ e. counts_self x)
+    cond_both ((eqb x.attempt t && ltb x.window.base p) && leb p (x.window.base + length x.window.pages)) (record { attempt = x.attempt; window = dropped (p - x.window.base) x.window; unsent = x.unsent; cursor = x.cursor; sent = x.sent; turns = x.turns; prev = x.prev }) x (λ y. Counts x y) (λ e. record { attempt = refl; unsent = refl; cursor = refl; sent = refl; turns = refl; prev = refl }) (λ e. counts_self x)
 
 -- A state is its own kin.
 pub kin_self : (s : State) → Kin s s
@@ -267,7 +268,7 @@ heard_paced {pages = pages} {m = m} h p = kin_paced pages m.state (heard_kin h) 
 tick_well : {pages : ℕ} (x : Transfer) → PassWell pages x → PassWell pages (ticked x)
 tick_well x h = record { turns = omega arith; prev = h.prev; cursor = h.cursor; sent = h.sent; below = h.below }
 
-begin_well : (pages : ℕ) (x : Transfer) → x.cursor ≡ 0 → x.sent ≡ 0 → 1 ≤ x.turns → 1 ≤ x.prev → PassWell pages x
+begin_well : (pages : ℕ) (x : Transfer) → x.cursor ≡ 0 → x.sent ≡ 0 → 1 ≤ x.turns → 1 ≤ past x → PassWell pages x
 begin_well pages x c s t v = record { turns = t; prev = v; cursor = omega arith; sent = omega arith; below = λ q l. absurd (omega arith) }
 
 anew_well : {pages : ℕ} (x : Transfer) → PassWell pages x → PassWell pages (ticked (anew x))
@@ -277,7 +278,7 @@ afresh_well : (pages : ℕ) (x : Transfer) → PassWell pages (ticked (afresh x)
 afresh_well pages x = begin_well pages (ticked (afresh x)) refl refl (omega arith) (omega arith)
 
 new_well : {pages : ℕ} {n : Node} {x : Transfer} → New pages n x → PassWell pages (ticked x)
-new_well {pages = pages} {x = x} e = let v = e.prev in begin_well pages (ticked x) e.cursor e.sent (omega arith) (omega arith)
+new_well {pages = pages} {x = x} e = let v = ap turns_in e.prev in begin_well pages (ticked x) e.cursor e.sent (omega arith) (omega arith)
 
 -- After what it does by itself.
 pub acts_paced : (pages most : ℕ) (told : Bool) (s : State) (n : Node) (w : World) (m : Node) (v : World) → ActedOver pages most told s n w m v → Paced pages s → Paced pages m.state
@@ -333,14 +334,14 @@ early {pages = pages} {calm = calm} {x = x} h p l = elim (cases_lt calm 4) [ inl
         omega arith
 
 -- few pages are due in a pass after a pass in calm rounds, so it is short
-short : {pages calm : ℕ} {touched : ℕ → Bool} {x : Transfer} → pages ≤ 4096 → PassWell pages x → CopyPace pages calm touched x → x.prev + x.turns + 3 ≤ calm → x.turns ≤ 37
+short : {pages calm : ℕ} {touched : ℕ → Bool} {x : Transfer} → pages ≤ 4096 → PassWell pages x → CopyPace pages calm touched x → past x + x.turns + 3 ≤ calm → x.turns ≤ 37
 short {pages = pages} {touched = touched} {x = x} few h p l =
     let a = h.turns in
     let b = h.cursor in
     let d = p.pace.near (x.turns - 1) (omega arith) (omega arith) in
     let e = p.due (omega arith) in
     let f = p.pace.before l in
-    sums pages x.cursor x.sent x.turns x.prev (rest pages touched x) few a b d e f
+    sums pages x.cursor x.sent x.turns (past x) (rest pages touched x) few a b d e f
   where
     sums : (p k s t v r : ℕ) → p ≤ 4096 → 1 ≤ t → k ≤ p → 248 * (t - 1) ≤ k + 3 * s → s + r ≤ 16 * (v + t) → 248 * v ≤ 4 * p + 248 → t ≤ 37
     sums p k s t v r few a b d e f = omega arith
@@ -350,9 +351,9 @@ pub in_time : (pages calm still : ℕ) (touched : ℕ → Bool) (s : State) → 
 in_time pages calm still touched Away l h p = (omega arith, omega arith)
 in_time pages calm still touched (Receiving r) l h p = (omega arith, omega arith)
 in_time pages calm still touched (Running r) l h p = (omega arith, omega arith)
-in_time pages calm still touched (Copying x) l h p = (let z = p.1 in omega arith, soon p.0 (cases_lt calm (x.turns + 3)) (cases_lt calm (x.prev + x.turns + 3)))
+in_time pages calm still touched (Copying x) l h p = (let z = p.1 in omega arith, soon p.0 (cases_lt calm (x.turns + 3)) (cases_lt calm (past x + x.turns + 3)))
   where
-    soon : CopyPace pages calm touched x → (calm < x.turns + 3) ⊎ (x.turns + 3 ≤ calm) → (calm < x.prev + x.turns + 3) ⊎ (x.prev + x.turns + 3 ≤ calm) → calm < 256 + 8 * pages
+    soon : CopyPace pages calm touched x → (calm < x.turns + 3) ⊎ (x.turns + 3 ≤ calm) → (calm < past x + x.turns + 3) ⊎ (past x + x.turns + 3 ≤ calm) → calm < 256 + 8 * pages
     soon q (inl k) j = let a = early h q.pace k in omega arith
     soon q (inr k) (inl j) = let a = slow h q.pace k in let b = q.late k j in omega arith
     soon q (inr k) (inr j) = let a = slow h q.pace k in let b = q.later j in let c = q.pace.before j in omega arith
@@ -363,13 +364,13 @@ in_time pages calm still touched (Committed x) l h p = let a = p.0 in let b = p.
 -- One turn of a pass in it, from x, as that turn begins, to y.
 record Onward (pages calm : ℕ) (x y : Transfer) : Type 0 where
   turns : y.turns ≡ x.turns
-  prev : y.prev ≡ x.prev
+  prev : past y ≡ past x
   cursor : x.cursor ≤ y.cursor
   sum : x.cursor + 3 * x.sent ≤ y.cursor + 3 * y.sent
   far : 3 ≤ calm → y.cursor < pages → x.cursor + 3 * x.sent + 248 ≤ y.cursor + 3 * y.sent
 
 -- it looks at pages if none is on its way, and there are asks enough
-onward : {pages most : ℕ} {x y : Transfer} (calm : ℕ) → pages ≤ 4096 → PassWell pages x → (3 ≤ calm → x.window.len ≡ 0) → (3 ≤ calm → 251 ≤ most) → GoneOn pages most x y → Within pages x y → Onward pages calm x y
+onward : {pages most : ℕ} {x y : Transfer} (calm : ℕ) → pages ≤ 4096 → PassWell pages x → (3 ≤ calm → length x.window.pages ≡ 0) → (3 ≤ calm → 251 ≤ most) → GoneOn pages most x y → Within pages x y → Onward pages calm x y
 onward calm few h empty asks g i =
     let p = gone_counts g in
     record { turns = p.turns; prev = p.prev; cursor = p.cursor; sum = let a = p.cursor in let b = gone_sent g i few h in omega arith; far = λ c l. gone_progress g (empty c) (asks c) few h l }
@@ -400,7 +401,7 @@ pace_on {pages = pages} {calm = calm} {y = y} x small within o p =
         omega arith
 
 -- a pass begins
-pace_begin : {pages calm : ℕ} {x y : Transfer} → x.turns ≡ 1 → (x.prev + 3 ≤ calm → 248 * x.prev ≤ 4 * pages + 248) → Onward pages calm x y → Pace pages (calm + 1) y
+pace_begin : {pages calm : ℕ} {x y : Transfer} → x.turns ≡ 1 → (past x + 3 ≤ calm → 248 * past x ≤ 4 * pages + 248) → Onward pages calm x y → Pace pages (calm + 1) y
 pace_begin {pages = pages} {calm = calm} {x = x} {y = y} one before o =
     record {
       far = λ k a b c. elim (cases_eq k 0) [ inl e ↦ omega arith | inr e ↦ let t = o.turns in let g = o.far (omega arith) c in omega arith ];
@@ -464,15 +465,15 @@ unfolding count
 none_counted f n e = ap (count f) e
 
 -- a pass is over, or it isn't and none is on its way
-is_over : (pages : ℕ) (x : Transfer) → over pages x ≡ true → (x.window.len ≡ 0) × (x.cursor ≡ pages)
+is_over : (pages : ℕ) (x : Transfer) → over pages x ≡ true → (length x.window.pages ≡ 0) × (x.cursor ≡ pages)
 is_over pages x e =
-    let p = and_parts (eqb x.window.len 0) (eqb x.cursor pages) e in
-    (eqb-true x.window.len 0 p.0, eqb-true x.cursor pages p.1)
+    let p = and_parts (eqb (length x.window.pages) 0) (eqb x.cursor pages) e in
+    (eqb-true (length x.window.pages) 0 p.0, eqb-true x.cursor pages p.1)
 
-not_over : (pages : ℕ) (x : Transfer) → over pages x ≡ false → x.cursor ≤ pages → x.window.len ≡ 0 → x.cursor < pages
+not_over : (pages : ℕ) (x : Transfer) → over pages x ≡ false → x.cursor ≤ pages → length x.window.pages ≡ 0 → x.cursor < pages
 not_over pages x e l z =
-    elim (and_cases (eqb x.window.len 0) (eqb x.cursor pages) e) [
-      | inl f ↦ absurd (eqb-false x.window.len 0 f z)
+    elim (and_cases (eqb (length x.window.pages) 0) (eqb x.cursor pages) e) [
+      | inl f ↦ absurd (eqb-false (length x.window.pages) 0 f z)
       | inr f ↦ let d : x.cursor ≡ pages → ⊥ = eqb-false x.cursor pages f in omega arith
     ]
 
@@ -515,10 +516,10 @@ copy_anew {pages = pages} {calm = calm} {T = T} x r few e l o g h p =
     }
   where
     stay : x.turns + 3 ≤ calm → 248 * calm ≤ 4 * pages + 248 * (x.turns + 70)
-    stay a = elim (cases_lt calm (x.prev + x.turns + 3)) [ inl c ↦ p.late a c | inr c ↦ let d = short few h p c in absurd (omega arith) ]
+    stay a = elim (cases_lt calm (past x + x.turns + 3)) [ inl c ↦ p.late a c | inr c ↦ let d = short few h p c in absurd (omega arith) ]
 
 -- or a pass begins after none.
-copy_afresh : {pages calm b : ℕ} {T U : ℕ → Bool} {w v : World} {x y : Transfer} → Writes pages b T U w v → calm ≤ 66 → x.cursor ≡ 0 → x.turns ≡ 1 → x.prev ≡ 4294967295 → Onward pages calm x y → Went x w y v → CopyPace pages (calm + 1) U y
+copy_afresh : {pages calm b : ℕ} {T U : ℕ → Bool} {w v : World} {x y : Transfer} → Writes pages b T U w v → calm ≤ 66 → x.cursor ≡ 0 → x.turns ≡ 1 → past x ≡ 4294967295 → Onward pages calm x y → Went x w y v → CopyPace pages (calm + 1) U y
 copy_afresh {T = T} {x = x} r early c one never o g =
     let t = o.turns in
     let u = o.prev in
@@ -539,11 +540,11 @@ pause_stops {pages = pages} {calm = calm} x z r one e l s o g h p =
     record {
       pace = pace_begin refl (λ a. slow h p.pace a) o;
       due = λ a. let c = dues_anew x r e g h p (omega arith) in omega arith;
-      late = let d = soon (cases_lt calm (x.turns + 3)) (cases_lt calm (x.prev + x.turns + 3)) in omega arith;
+      late = let d = soon (cases_lt calm (x.turns + 3)) (cases_lt calm (past x + x.turns + 3)) in omega arith;
       since = omega arith;
     }
   where
-    soon : (calm < x.turns + 3) ⊎ (x.turns + 3 ≤ calm) → (calm < x.prev + x.turns + 3) ⊎ (x.prev + x.turns + 3 ≤ calm) → 248 * calm ≤ 8 * pages + 248 * 108
+    soon : (calm < x.turns + 3) ⊎ (x.turns + 3 ≤ calm) → (calm < past x + x.turns + 3) ⊎ (past x + x.turns + 3 ≤ calm) → 248 * calm ≤ 8 * pages + 248 * 108
     soon (inl k) j = omega arith
     soon (inr k) (inl j) = let a = p.late k j in omega arith
     soon (inr k) (inr j) = let a = p.later j in let c = p.pace.before j in omega arith
@@ -563,19 +564,19 @@ pause_goes x z r idle next l s small within o g h p =
 
 -- A guest that has stood for 27 turns and isn't moved yet can't have stood in calm rounds alone.
 pause_early : {pages calm still : ℕ} {T : ℕ → Bool} (x : Pause) → pages ≤ 4096 → 27 ≤ x.turns → (3 ≤ calm → x.transfer.cursor < pages) → PauseWell pages x → PausePace pages calm still T x → calm ≤ 66
-pause_early {pages = pages} {calm = calm} {T = T} x few l within h p = elim (cases_lt calm (x.transfer.prev + x.transfer.turns + 3)) [ inl k ↦ sooner k | inr k ↦ absurd (never k) ]
+pause_early {pages = pages} {calm = calm} {T = T} x few l within h p = elim (cases_lt calm (past x.transfer + x.transfer.turns + 3)) [ inl k ↦ sooner k | inr k ↦ absurd (never k) ]
   where
-    sooner : calm < x.transfer.prev + x.transfer.turns + 3 → calm ≤ 66
+    sooner : calm < past x.transfer + x.transfer.turns + 3 → calm ≤ 66
     sooner k = let a = h.turns in let b = h.most in let c = h.prev in omega arith
 
     sums : (p k s t v r : ℕ) → p ≤ 4096 → 27 ≤ t → k < p → v ≤ 37 → 248 * t ≤ k + 3 * s → s + r ≤ 16 * (v + 1) → ⊥
     sums p k s t v r few l a b c d = omega arith
 
-    never : x.transfer.prev + x.transfer.turns + 3 ≤ calm → ⊥
+    never : past x.transfer + x.transfer.turns + 3 ≤ calm → ⊥
     never k =
         let a = h.turns in
         let c = within (omega arith) in
-        sums pages x.transfer.cursor x.transfer.sent x.transfer.turns x.transfer.prev (rest pages T x.transfer) few (omega arith) c h.prev (p.pace.far x.transfer.turns (omega arith) (omega arith) c) (p.due (omega arith))
+        sums pages x.transfer.cursor x.transfer.sent x.transfer.turns (past x.transfer) (rest pages T x.transfer) few (omega arith) c h.prev (p.pace.far x.transfer.turns (omega arith) (omega arith) c) (p.due (omega arith))
 
 -- HEARING changes nothing of the pace.
 -- what is still to be sent
@@ -635,7 +636,7 @@ pub record Calm (pages calm still since b most : ℕ) (T U : ℕ → Bool) (s0 s
   pub kin : Kin s0 s
   pub paced : Paced pages s0
   pub less : still ≤ calm
-  pub ready : 3 ≤ calm → (x : Transfer) → moving s ≡ Some x → x.window.len ≡ 0
+  pub ready : 3 ≤ calm → (x : Transfer) → moving s ≡ Some x → length x.window.pages ≡ 0
   pub asks : 3 ≤ calm → 252 ≤ most
   pub run : (r : Run) → s ≡ Running r → calm ≤ 2
   pub again : (x : Commitment) → s ≡ Committed x → calm ≤ 1
@@ -647,7 +648,7 @@ pub record Calm (pages calm still since b most : ℕ) (T U : ℕ → Bool) (s0 s
 -- from Copying
 copying_in_pace : {pages calm still since b most : ℕ} {T U : ℕ → Bool} {s0 : State} {x : Transfer} {n : Node} {w : World} {m : Node} {v : World} → Calm pages calm still since b most T U s0 (Copying x) w m v → CopyOver pages most x n w m v → calm ≤ 40000 → PassWell pages x → CopyPace pages calm T x → still ≡ 0 → InPace pages (calm + 1) since U m.state
 copying_in_pace {pages = pages} {calm = calm} {since = since} {U = U} {x = x} r (played.CopyOver.on f d) small h p z =
-    let a : 3 ≤ calm → x.window.len ≡ 0 = λ k. r.ready k x refl in
+    let a : 3 ≤ calm → length x.window.pages ≡ 0 = λ k. r.ready k x refl in
     subst⁻¹ (λ (k : Node). InPace pages (calm + 1) since U k.state) d.node
     (copy_on x r.writes small (λ k. not_over pages x f h.cursor (a k)) (onward calm r.few (tick_well x h) a (λ k. let i = r.asks k in omega arith) d.goes d.within) d.went p, r.copies d.after (ap (λ (k : Node). k.state) d.node))
 copying_in_pace {pages = pages} {calm = calm} {since = since} {U = U} {x = x} r (played.CopyOver.again f l d) small h p z =
@@ -669,12 +670,12 @@ pausing_in_pace {pages = pages} {calm = calm} {since = since} {U = U} r (played.
     let g = p.since in
     subst⁻¹ (λ (k : Node). InPace pages (calm + 1) since U k.state) e (omega arith, omega arith)
 pausing_in_pace {pages = pages} {calm = calm} {since = since} {U = U} {x = x} r (played.PauseOver.resumes f l d) small h p =
-    let a : 3 ≤ calm → x.transfer.window.len ≡ 0 = λ k. r.ready k x.transfer refl in
+    let a : 3 ≤ calm → length x.transfer.window.pages ≡ 0 = λ k. r.ready k x.transfer refl in
     let c = pause_early x r.few l (λ k. not_over pages x.transfer f h.pass.cursor (a k)) h p in
     subst⁻¹ (λ (k : Node). InPace pages (calm + 1) since U k.state) d.node
     (copy_afresh r.writes c refl refl refl (onward calm r.few (afresh_well pages x.transfer) a (λ k. let i = r.asks k in omega arith) d.goes d.within) d.went, r.copies d.after (ap (λ (k : Node). k.state) d.node))
 pausing_in_pace {pages = pages} {calm = calm} {since = since} {U = U} {x = x} r (played.PauseOver.goes f l d e) small h p =
-    let a : 3 ≤ calm → x.transfer.window.len ≡ 0 = λ k. r.ready k x.transfer refl in
+    let a : 3 ≤ calm → length x.transfer.window.pages ≡ 0 = λ k. r.ready k x.transfer refl in
     let z : Pause = record { transfer = d.after; right = record { attempt = x.right.attempt }; turns = x.turns + 1 } in
     subst⁻¹ (λ (k : Node). InPace pages (calm + 1) since U k.state) d.node
     (pause_goes x z r.writes (r.idle x z refl (ap (λ (k : Node). k.state) d.node)) refl l r.next small (λ k. not_over pages x.transfer f h.pass.cursor (a k)) (onward calm r.few (tick_well x.transfer h.pass) a (λ k. let i = r.asks k in omega arith) d.goes d.within) d.went h p)
@@ -690,7 +691,7 @@ running_in_pace {pages = pages} {calm = calm} {since = since} {U = U} {x = x} r 
     let a = r.run x refl in
     let t = e.turns in
     subst⁻¹ (λ (k : Node). InPace pages (calm + 1) since U k.state) d.node
-    (copy_afresh r.writes (omega arith) e.cursor (omega arith) e.prev (onward calm r.few (new_well e) (λ k. absurd (omega arith)) (λ k. absurd (omega arith)) d.goes d.within) d.went, r.copies d.after (ap (λ (k : Node). k.state) d.node))
+    (copy_afresh r.writes (omega arith) e.cursor (omega arith) (ap turns_in e.prev) (onward calm r.few (new_well e) (λ k. absurd (omega arith)) (λ k. absurd (omega arith)) d.goes d.within) d.went, r.copies d.after (ap (λ (k : Node). k.state) d.node))
 
 -- THE PACE IS KEPT: what holds after `calm` rounds holds after one more.
 pub in_pace : {pages calm still since b most : ℕ} {T U : ℕ → Bool} {s0 : State} {w : World} {m : Node} {v : World} (told : Bool) (s : State) (n : Node) → Calm pages calm still since b most T U s0 s w m v → ActedOver pages most told s n w m v → InPace pages calm still T s0 → InPace pages (calm + 1) since U m.state

@@ -2,14 +2,13 @@
 -- Assumes nothing.
 use Rattle.std.proofs.Common.{◌≡◌, ℕ, ◌+◌, ◌<◌, ◌≤◌, min, Bool, true, false, cond, ◌&&◌, ◌||◌, leb, List, [], ◌∷◌, ◌++◌, length, take, sym, refl, ap, ◌∙◌, subst, inl, inr, arith}
 use Rattle.std.proofs.lemmas.Bool.{cases_lt, eq-eqb, ne_eqb, le-leb, lt-leb}
-use Rattle.std.proofs.lemmas.List.{take_more, take_all, length-take-le}
+use Rattle.std.proofs.lemmas.List.{take_more, take_all, length-take-le, nil_from_length}
 use Rattle.letter.specs.declared.Kind.TheVariants.{Probe, Page}
 use Rattle.letter.specs.Words.{head}
 use Rattle.pageset.specs.Count.{bit, count, count_from}
 use Rattle.pageset.specs.Member.{member}
 use Rattle.pageset.proofs.Counts.{count_same, count_more, count_cleared}
-use Rattle.window.specs.Pages.{Sound, pages_of, pushed, slot}
-use Rattle.window.proofs.Slots.{pages_none, length_pages, pushed_pages}
+use Rattle.window.specs.Pages.{pushed, slot}
 use Rattle.moving.specs.declared.state.Transfer.{Transfer}
 use Rattle.moving.specs.Hosts.{World, Does, put, me, untouched}
 use Rattle.moving.specs.Scan.{due, Looked}
@@ -133,39 +132,36 @@ pub asked_still : (w v : World) (x : Transfer) → Calmly w v → row_there v �
 asked_still w v x k f d q = ap heads f ∙ d (k.rough q)
 
 -- a page more, that goes into the window
-pub asked_sent : (x y : Transfer) (w u v : World) (p : ℕ) → Sound x.window → x.window.len < 62 → y.attempt ≡ x.attempt → y.window ≡ pushed p x.window → Calmly w u → row_there u ≡ row_there w → Added (head Page x.attempt (x.window.base + x.window.len) p) u v → Asked x w → Asked y v
-asked_sent x y w u v p s l e f k r d a q =
-    let n = length_pages x.window s in
-    let i = length_page_heads x.attempt x.window.base (pages_of x.window) in
-    asked_added {w = u} {v = v} (head Page x.attempt (x.window.base + x.window.len) p) (asked_of x.attempt x.window) (asked_of y.attempt y.window)
-    (ap (λ t. asked_of t y.window) e ∙ ap (asked_of x.attempt) f ∙ ap (λ (r : List (List ℕ)). head Probe x.attempt 0 0 ∷ r) (ap (page_heads x.attempt x.window.base) (pushed_pages p x.window s l) ∙ heads_more x.attempt x.window.base (pages_of x.window) p ∙ ap (λ (j : ℕ). page_heads x.attempt x.window.base (pages_of x.window) ++ (head Page x.attempt (x.window.base + j) p ∷ [])) n))
-    (omega (arith, n, i)) d (asked_still w u x k r a) q
+pub asked_sent : (x y : Transfer) (w u v : World) (p : ℕ) → length x.window.pages < 62 → y.attempt ≡ x.attempt → y.window ≡ pushed p x.window → Calmly w u → row_there u ≡ row_there w → Added (head Page x.attempt (x.window.base + length x.window.pages) p) u v → Asked x w → Asked y v
+asked_sent x y w u v p l e f k r d a q =
+    let i = length_page_heads x.attempt x.window.base x.window.pages in
+    asked_added {w = u} {v = v} (head Page x.attempt (x.window.base + length x.window.pages) p) (asked_of x.attempt x.window) (asked_of y.attempt y.window)
+    (ap (λ t. asked_of t y.window) e ∙ ap (asked_of x.attempt) f ∙ ap (λ (r : List (List ℕ)). head Probe x.attempt 0 0 ∷ r) (heads_more x.attempt x.window.base x.window.pages p))
+    (omega (arith, i)) d (asked_still w u x k r a) q
 
 -- a page of the window once more
-pub asked_next : (x : Transfer) (i : ℕ) {w v : World} → Sound x.window → i < x.window.len → Added (head Page x.attempt (x.window.base + i) (slot x.window i)) w v → AskedTo i x w → AskedTo (i + 1) x v
-asked_next x i {w = w} {v = v} s l d a q =
-    let n = length_pages x.window s in
-    let m = s.room in
-    let t : length (take i (pages_of x.window)) ≡ i = taken_length i (pages_of x.window) (omega arith) in
-    let j = length_page_heads x.attempt x.window.base (take i (pages_of x.window)) in
+pub asked_next : (x : Transfer) (i : ℕ) {w v : World} → length x.window.pages ≤ 62 → i < length x.window.pages → Added (head Page x.attempt (x.window.base + i) (slot x.window i)) w v → AskedTo i x w → AskedTo (i + 1) x v
+asked_next x i {w = w} {v = v} m l d a q =
+    let t : length (take i x.window.pages) ≡ i = taken_length i x.window.pages (omega arith) in
+    let j = length_page_heads x.attempt x.window.base (take i x.window.pages) in
     asked_added {w = w} {v = v} (head Page x.attempt (x.window.base + i) (slot x.window i)) (asked_up_to i x.attempt x.window) (asked_up_to (i + 1) x.attempt x.window)
-    (ap (λ (r : List (List ℕ)). head Probe x.attempt 0 0 ∷ r) (ap (page_heads x.attempt x.window.base) (take_more (pages_of x.window) i 0 (omega arith)) ∙ heads_more x.attempt x.window.base (take i (pages_of x.window)) (slot x.window i) ∙ ap (λ (j : ℕ). page_heads x.attempt x.window.base (take i (pages_of x.window)) ++ (head Page x.attempt (x.window.base + j) (slot x.window i) ∷ [])) t))
+    (ap (λ (r : List (List ℕ)). head Probe x.attempt 0 0 ∷ r) (ap (page_heads x.attempt x.window.base) (take_more x.window.pages i 0 (omega arith)) ∙ heads_more x.attempt x.window.base (take i x.window.pages) (slot x.window i) ∙ ap (λ (j : ℕ). page_heads x.attempt x.window.base (take i x.window.pages) ++ (head Page x.attempt (x.window.base + j) (slot x.window i) ∷ [])) t))
     (omega (arith, t, j)) d a q
   where
     taken_length : (i : ℕ) (xs : List ℕ) → i ≤ length xs → length (take i xs) ≡ i
     taken_length i xs l = length-take-le i xs l
 
 -- all of it was sent once more
-pub asked_all : (x : Transfer) (i : ℕ) (w : World) → Sound x.window → i ≡ x.window.len → AskedTo i x w → Asked x w
-asked_all x i w s e a q = a q ∙ ap (λ (ps : List ℕ). head Probe x.attempt 0 0 ∷ page_heads x.attempt x.window.base ps) (take_all i (pages_of x.window) (let n = length_pages x.window s in omega arith))
+pub asked_all : (x : Transfer) (i : ℕ) (w : World) → i ≡ length x.window.pages → AskedTo i x w → Asked x w
+asked_all x i w e a q = a q ∙ ap (λ (ps : List ℕ). head Probe x.attempt 0 0 ∷ page_heads x.attempt x.window.base ps) (take_all i x.window.pages (omega arith))
 
 -- a probe, into an empty row
 pub asked_first : (x : Transfer) {w v : World} → Added (head Probe x.attempt 0 0) w v → row_there w ≡ [] → AskedTo 0 x v
 unfolding heads page_heads
 asked_first x d e q = d.far q (omega (arith, ap length e)) ∙ ap (λ (r : List (List ℕ)). heads r ++ (head Probe x.attempt 0 0 ∷ [])) e
 
-pub asked_none : (x : Transfer) (w : World) → x.window.len ≡ 0 → AskedTo 0 x w → Asked x w
-asked_none x w e a q = a q ∙ ap (λ (ps : List ℕ). head Probe x.attempt 0 0 ∷ page_heads x.attempt x.window.base ps) (sym (pages_none x.window e))
+pub asked_none : (x : Transfer) (w : World) → length x.window.pages ≡ 0 → AskedTo 0 x w → Asked x w
+asked_none x w e a q = a q ∙ ap (λ (ps : List ℕ). head Probe x.attempt 0 0 ∷ page_heads x.attempt x.window.base ps) (sym (nil_from_length x.window.pages e))
 
 -- A TURN OF WHO MOVES THE GUEST: a probe, and then the window again or a part of the pass
 pub went_on : {x y : Transfer} {w u v : World} → Added (head Probe x.attempt 0 0) w u → u.pages ≡ w.pages → Passed x u y v → (AskedTo 0 x u → Asked y v) → Went x w y v × Rests w v

@@ -1,6 +1,6 @@
 -- What a transfer does: it scans, is acknowledged, begins a pass, stops.
 -- Assumes nothing.
-use Rattle.std.proofs.Common.{◌≡◌, ℕ, ◌+◌, ◌-◌, ◌%◌, ◌<◌, ◌≤◌, Bool, true, false, cond, not, ◌&&◌, eqb, ltb, List, sym, refl, ap, ◌∙◌, subst, ap₂, arith, ltb-false, ltb-true, eqb-true}
+use Rattle.std.proofs.Common.{◌≡◌, ℕ, ◌+◌, ◌-◌, ◌%◌, ◌<◌, ◌≤◌, Bool, true, false, cond, not, ◌&&◌, eqb, ltb, List, Option, sym, refl, ap, ◌∙◌, subst, ap₂, arith, ltb-false, ltb-true, eqb-true, length}
 use borrow.Author.Tests.{eqb-false}
 use Rattle.moving.specs.declared.Node.{Node}
 use Rattle.moving.specs.declared.state.Transfer.{Transfer}
@@ -62,21 +62,21 @@ push_carries m c d p o u k pp room h =
     let at = k.attempt in
     let ba = k.base in
     let le = k.len in
-    record { attempt = at ∙ h.attempt; own = ap (λ z. z % 2) at ∙ h.own; done = let w = h.done in omega arith; took = let w = h.took in omega arith; most = omega arith; ways = λ j w. ways j w (ltb j c.window.len) refl; base = λ w. ba ∙ h.base (omega arith); every = λ w q l v. every (omega arith) q l v (eqb q p) refl; under = λ r f a. under r f (a ∙ at) }
+    record { attempt = at ∙ h.attempt; own = ap (λ z. z % 2) at ∙ h.own; done = let w = h.done in omega arith; took = let w = h.took in omega arith; most = omega arith; ways = λ j w. ways j w (ltb j (length c.window.pages)) refl; base = λ w. ba ∙ h.base (omega arith); every = λ w q l v. every (omega arith) q l v (eqb q p) refl; under = λ r f a. under r f (a ∙ at) }
   where
-    ways : (j : ℕ) → j < d.window.len → (b : Bool) → ltb j c.window.len ≡ b → slot d j < u.pages
-    ways j w true e = let z = ltb-true j c.window.len e in let y = k.old j z in let x = h.ways j z in omega arith
+    ways : (j : ℕ) → j < length d.window.pages → (b : Bool) → ltb j (length c.window.pages) ≡ b → slot d j < u.pages
+    ways j w true e = let z = ltb-true j (length c.window.pages) e in let y = k.old j z in let x = h.ways j z in omega arith
     ways j w false e =
-        let z = ltb-false j c.window.len e in
+        let z = ltb-false j (length c.window.pages) e in
         let le = k.len in
-        let y : j ≡ c.window.len = omega arith in
+        let y : j ≡ length c.window.pages = omega arith in
         let x : slot d j ≡ p = ap (slot d) y ∙ k.last in
         omega arith
 
     every : u.theirs.cell 1 < c.attempt → (q : ℕ) → q < u.pages → unsent d q ≡ false → (b : Bool) → eqb q p ≡ b → Flies d q 0
     every w q l v true e =
         let le = k.len in
-        (c.window.len, omega arith, k.last ∙ sym (eqb-true q p e), omega arith)
+        (length c.window.pages, omega arith, k.last ∙ sym (eqb-true q p e), omega arith)
     every w q l v false e = still_flies q 0 k (h.every w q l (sym (k.kept q (eqb-false q p e)) ∙ v))
 
     under : (r : Reception) → o.state ≡ Receiving r → r.attempt ≡ c.attempt → Under r.next d (on_mine (clear p u.mine) u)
@@ -93,7 +93,7 @@ push_carries m c d p o u k pp room h =
             let hi = (h.under r f a).high in
             let ba = k.base in
             let le = k.len in
-            absurd (nf (c.window.len, omega arith, k.last ∙ sym (eqb-true q p e), omega arith))
+            absurd (nf (length c.window.pages, omega arith, k.last ∙ sym (eqb-true q p e), omega arith))
         same q l v false e t nf = (h.under r f a).same q l (sym (k.kept q (eqb-false q p e)) ∙ v) t (λ z. nf (still_flies q r.next k z))
 
 pub push_bears : (l : List ℕ) (c d : Transfer) (p : ℕ) (m : ℕ) (o : Node) (u : View) → Pushed c d p → Carries m c o u → Bears l c o (flip u) → Bears l d o (flip (on_mine (clear p u.mine) u))
@@ -144,11 +144,11 @@ skip_bears : (l : List ℕ) (c : Transfer) (p : ℕ) (o : Node) (u : View) → u
 skip_bears l c p o u e b =
     record { high = b.high; slot = b.slot; soon = λ w v t. b.soon w v (was_clear p (page_of l) u.mine.touched e t); now = λ r f a w v t. b.now r f a w v (was_clear p (page_of l) u.mine.touched e t) }
 
-pub skip_copying : {m : ℕ} {x y : List (List ℕ)} {n o : Node} {u : View} (c : Transfer) (p k s t v : ℕ) → n.state ≡ Copying c → u.mine.touched p ≡ false → Both m x y n o u → Both m x y (on_state (Copying (recount c k s t v)) n) o (on_mine (clear p u.mine) u)
+pub skip_copying : {m : ℕ} {x y : List (List ℕ)} {n o : Node} {u : View} (c : Transfer) (p k s t : ℕ) (v : Option ℕ) → n.state ≡ Copying c → u.mine.touched p ≡ false → Both m x y n o u → Both m x y (on_state (Copying (recount c k s t v)) n) o (on_mine (clear p u.mine) u)
 skip_copying {m = m} {o = o} {u = u} c p k s t v e f h =
     copying_to c (recount c k s t v) (put p false u.mine.touched) e refl (skip_carries m c p o u f (h.ours.copy.carries c (ap moving e))) (λ l. skip_bears l c p o u f) h
 
-pub skip_paused : {m : ℕ} {x y : List (List ℕ)} {n o : Node} {u : View} (c : Pause) (s t v w : ℕ) → n.state ≡ Paused c → u.mine.touched c.transfer.cursor ≡ false → unsent c.transfer c.transfer.cursor ≡ false → Both m x y n o u → Both m x y (on_state (Paused (repause c (recount c.transfer (c.transfer.cursor + 1) s t v) w)) n) o (on_mine (clear c.transfer.cursor u.mine) u)
+pub skip_paused : {m : ℕ} {x y : List (List ℕ)} {n o : Node} {u : View} (c : Pause) (s t : ℕ) (v : Option ℕ) (w : ℕ) → n.state ≡ Paused c → u.mine.touched c.transfer.cursor ≡ false → unsent c.transfer c.transfer.cursor ≡ false → Both m x y n o u → Both m x y (on_state (Paused (repause c (recount c.transfer (c.transfer.cursor + 1) s t v) w)) n) o (on_mine (clear c.transfer.cursor u.mine) u)
 skip_paused {m = m} {o = o} {u = u} c s t v w e f g h =
     paused_to c (repause c (recount c.transfer (c.transfer.cursor + 1) s t v) w) (put c.transfer.cursor false u.mine.touched) e refl (skip_carries m c.transfer c.transfer.cursor o u f (h.ours.copy.carries c.transfer (ap moving e))) (λ q l. low q l (eqb q c.transfer.cursor) refl) (λ l. skip_bears l c.transfer c.transfer.cursor o u f) h
   where
@@ -159,10 +159,10 @@ skip_paused {m = m} {o = o} {u = u} c s t v w e f g h =
         h.ours.copy.below c e q (omega arith)
 
 -- a pass begins, or turns are counted
-pub recount_copying : {m : ℕ} {x y : List (List ℕ)} {n o : Node} {u : View} (c : Transfer) (k s t v : ℕ) → n.state ≡ Copying c → Both m x y n o u → Both m x y (on_state (Copying (recount c k s t v)) n) o u
+pub recount_copying : {m : ℕ} {x y : List (List ℕ)} {n o : Node} {u : View} (c : Transfer) (k s t : ℕ) (v : Option ℕ) → n.state ≡ Copying c → Both m x y n o u → Both m x y (on_state (Copying (recount c k s t v)) n) o u
 recount_copying {u = u} c k s t v e h = copying_to c (recount c k s t v) u.mine.touched e refl (h.ours.copy.carries c (ap moving e)) (λ l b. b) h
 
-pub recount_paused : {m : ℕ} {x y : List (List ℕ)} {n o : Node} {u : View} (c : Pause) (s t v w : ℕ) → n.state ≡ Paused c → Both m x y n o u → Both m x y (on_state (Paused (repause c (recount c.transfer c.transfer.cursor s t v) w)) n) o u
+pub recount_paused : {m : ℕ} {x y : List (List ℕ)} {n o : Node} {u : View} (c : Pause) (s t : ℕ) (v : Option ℕ) (w : ℕ) → n.state ≡ Paused c → Both m x y n o u → Both m x y (on_state (Paused (repause c (recount c.transfer c.transfer.cursor s t v) w)) n) o u
 recount_paused {u = u} c s t v w e h = paused_to c (repause c (recount c.transfer c.transfer.cursor s t v) w) u.mine.touched e refl (h.ours.copy.carries c.transfer (ap moving e)) (h.ours.copy.below c e) (λ l b. b) h
 
 -- ACK: the places below s leave the window
@@ -238,7 +238,7 @@ stop_it {m = m} {n = n} {o = o} {u = u} c z e tr h =
         record { probe = k.probe; page = k.page; commit = k.commit; ack = k.ack; refuse = λ i. record { own = (k.refuse i).own; begun = (k.refuse i).begun; dead = λ _ r f. clash f tt; untaken = (k.refuse i).untaken }; taken = k.taken; place = k.place; given = k.given; bears = λ i b f a. let q = sym (ap (λ z. z.attempt) (some_same f)) ∙ at in subst (λ b. Bears l b o (flip u)) (sym tr ∙ some_same f) (k.bears i c (ap moving e) (a ∙ q)); acked = λ i c f a r j. clash j tt }
 
 -- AGAIN: it goes on in the same attempt
-pub go_again : {m : ℕ} {x y : List (List ℕ)} {n o : Node} {u : View} (z : Pause) (k s t v : ℕ) → n.state ≡ Paused z → Both m x y n o u → Both m x y (record { me = n.me; awake = n.awake; took = z.transfer.attempt; top = n.top; committed = n.committed; asked = n.asked; state = Copying (recount z.transfer k s t v) }) o (went z.transfer.attempt u)
+pub go_again : {m : ℕ} {x y : List (List ℕ)} {n o : Node} {u : View} (z : Pause) (k s t : ℕ) (v : Option ℕ) → n.state ≡ Paused z → Both m x y n o u → Both m x y (record { me = n.me; awake = n.awake; took = z.transfer.attempt; top = n.top; committed = n.committed; asked = n.asked; state = Copying (recount z.transfer k s t v) }) o (went z.transfer.attempt u)
 go_again {m = m} {n = n} {o = o} {u = u} z kk s t v e h =
     record { ours = record { me = h.ours.me; fit = record { sides = h.ours.fit.sides; some = h.ours.fit.some; few = h.ours.fit.few; lost = λ _. st.lost }; guest = record { told = λ a. no a st.told; runner = λ _ _. refl; keeper = λ a. no refl a; running = λ x f. clash f tt; copying = λ _ _. record { runs = refl; here = refl; wish = ap₂ (λ a b. a && b) st.wish st.here; told = st.told }; paused = λ x f. clash f tt; committed = λ x f. clash f tt; receiving = λ x f. clash f tt }; cells = record { copies = λ a. let w = h.ours.cells.copies a in (refl, w.1, w.2); asleep = λ a. clash (sym (h.ours.cells.asleep a) ∙ e) tt; took = omega (arith, ca.attempt); done = h.ours.cells.done; parity = h.ours.cells.parity; most = h.ours.cells.most; committed = λ x f. clash f tt; receiving = λ x f. clash f tt }; order = record { later = λ _. h.ours.order.later st.here; had = λ _ _ _. let w = h.ours.order.later st.here in omega (arith, ca.attempt); begun = h.ours.order.begun; untaken = λ _. h.ours.order.untaken st.here }; commits = λ r f a b. let w = ca.done in let v = ca.attempt in absurd (omega arith); copy = record { carries = λ b f. subst (λ b. Carries m b o (went z.transfer.attempt u)) (some_same f) ca; below = λ x f. clash f tt }; letters = λ l i. mine l (h.ours.letters l i) }; yours = record { me = h.yours.me; fit = record { sides = h.yours.fit.sides; some = h.yours.fit.some; few = h.yours.fit.few; lost = λ _. st.lost }; guest = record { told = λ a. no (h.yours.guest.told a).1 away; runner = λ _ b. no b refl; keeper = λ a. no refl a; running = λ y f. no (h.yours.guest.running y f).here away; copying = λ y f. no (h.yours.guest.copying y f).here away; paused = λ y f. no (h.yours.guest.paused y f).here away; committed = λ y f a b. no b refl; receiving = λ s f. refl }; cells = h.yours.cells; order = record { later = λ b. no b refl; had = λ b. no b refl; begun = h.yours.order.begun; untaken = λ b. no b refl }; commits = λ s f. clash f tt; copy = record { carries = λ c f. no (mover c h.yours f).0 away; below = h.yours.copy.below }; letters = λ l i. theirs l (h.yours.letters l i) } }
   where

@@ -1,6 +1,6 @@
 -- What is done keeps the world whole: one lemma for each kind of step.
 -- Assumes nothing.
-use Rattle.std.proofs.Common.{◌≡◌, ℕ, ◌+◌, ◌-◌, ◌%◌, ◌<◌, ◌≤◌, Bool, true, false, cond, not, ◌&&◌, ◌||◌, T, eqb, ltb, ◌⊎◌, List, [], ◌∷◌, ◌++◌, length, sym, refl, ap, ◌∙◌, subst, inl, inr, arith, eq-eqb, ne_eqb, eqb-true}
+use Rattle.std.proofs.Common.{◌≡◌, ℕ, ◌+◌, ◌-◌, ◌%◌, ◌<◌, ◌≤◌, Bool, true, false, cond, not, ◌&&◌, ◌||◌, T, eqb, ltb, ◌⊎◌, List, Option, [], ◌∷◌, ◌++◌, length, sym, refl, ap, ◌∙◌, subst, inl, inr, arith, eq-eqb, ne_eqb, eqb-true}
 use mathlib.Core.Path.{subst⁻¹, subst₃}
 use mathlib.Core.List.Memᴰ
 use mathlib.Core.List.{Memᴰ}
@@ -139,7 +139,7 @@ pub may_resume : (w : World) → MayGo (seen w) → MayResume w
 may_resume w g = (g.0, g.1, g.2, elim g.3 [ inl e ↦ inl (last_here w e) | inr e ↦ inr (holds e) ])
 
 -- COMMIT, PUT, BEGIN, ATTEMPT, SCAN
-pub commit_whole : {i m : ℕ} {x : List (List ℕ)} {n o : Node} {w : World} (z : Pause) → n.state ≡ Paused z → z.transfer.window.len ≡ 0 → z.transfer.cursor ≡ w.pages → Whole i m x n o w → Whole i m x (settled z.transfer.attempt n) o (kept 2 z.transfer.attempt w)
+pub commit_whole : {i m : ℕ} {x : List (List ℕ)} {n o : Node} {w : World} (z : Pause) → n.state ≡ Paused z → length z.transfer.window.pages ≡ 0 → z.transfer.cursor ≡ w.pages → Whole i m x n o w → Whole i m x (settled z.transfer.attempt n) o (kept 2 z.transfer.attempt w)
 commit_whole {w = w} z e len cur h = own_whole (cell_at 2 z.transfer.attempt (me w)) h (commit_it z e len cur h.both)
 
 pub put_whole : {i m : ℕ} {x : List (List ℕ)} {n o : Node} {w : World} (l : List ℕ) (r : Reception) → In l x (me w) → kind_of l ≡ 2 → n.state ≡ Receiving r → attempt_of l ≡ r.attempt → place_of l ≡ r.next → Whole i m x n o w → Whole i m x (on_state (Receiving (further r)) n) o (put_page (page_of l) (words_of l) w)
@@ -148,7 +148,7 @@ put_whole {w = w} l r i kd e at pl h = own_whole (put_at (page_of l) (words_of l
 pub begin_whole : {i m : ℕ} {x : List (List ℕ)} {n o : Node} {w : World} (l : List ℕ) → In l x (me w) → kind_of l ≡ 1 → (me w).cell 1 < attempt_of l → n.awake ≡ true → Whole i m x n o w → Whole i m x (on_top (attempt_of l) (Receiving (record { attempt = attempt_of l; next = 0 })) n) o (kept 1 (attempt_of l) w)
 begin_whole {w = w} l i kd gt aw h = own_whole (cell_at 1 (attempt_of l) (me w)) h (begin_it l i kd gt aw h.both)
 
-pub attempt_whole : {i m : ℕ} {x : List (List ℕ)} {n o : Node} {w : World} (z : Run) (d : Transfer) → n.state ≡ Running z → z.wanted ≡ true → n.awake ≡ true → (me w).cell 1 < d.attempt → d.attempt % 2 ≡ w.turn → d.attempt ≤ m → d.window.len ≡ 0 → d.window.base ≡ 0 → ((p : ℕ) → p < w.pages → unsent d p ≡ true) → Whole i m x n o w → Whole i m x (on_top d.attempt (Copying d) n) o (kept 1 d.attempt w)
+pub attempt_whole : {i m : ℕ} {x : List (List ℕ)} {n o : Node} {w : World} (z : Run) (d : Transfer) → n.state ≡ Running z → z.wanted ≡ true → n.awake ≡ true → (me w).cell 1 < d.attempt → d.attempt % 2 ≡ w.turn → d.attempt ≤ m → length d.window.pages ≡ 0 → d.window.base ≡ 0 → ((p : ℕ) → p < w.pages → unsent d p ≡ true) → Whole i m x n o w → Whole i m x (on_top d.attempt (Copying d) n) o (kept 1 d.attempt w)
 attempt_whole {w = w} z d e wa aw gt own le len base all h = own_whole (cell_at 1 d.attempt (me w)) h (attempt_it z d e wa aw gt own le len base all h.both)
 
 pub push_copying_whole : {i m : ℕ} {x : List (List ℕ)} {n o : Node} {w : World} (c d : Transfer) (p : ℕ) → n.state ≡ Copying c → Pushed c d p → p < w.pages → end c < m → Whole i m x n o w → Whole i m x (on_state (Copying d) n) o (untouched p w)
@@ -168,7 +168,7 @@ take_whole {w = w} l r i kd e at h = (may_resume w (may_take l r i kd e at h.bot
 pub refused_whole : {i m : ℕ} {x : List (List ℕ)} {n o : Node} {w : World} (l : List ℕ) (z : Commitment) → In l x (me w) → kind_of l ≡ 5 → n.state ≡ Committed z → z.mine ≡ true → attempt_of l ≡ z.attempt → n.awake ≡ true → Whole i m x n o w → MayResume w × Whole i m x (runs_again z.attempt true n) o (resumed z.attempt w)
 refused_whole {w = w} l z i kd e mi at aw h = (may_resume w (may_go (seen w) (refused_stands l z i kd e mi at h.both)), went_whole z.attempt h (refused l z i kd e mi at aw h.both))
 
-pub again_whole : {i m : ℕ} {x : List (List ℕ)} {n o : Node} {w : World} (z : Pause) (k s t v : ℕ) → n.state ≡ Paused z → Whole i m x n o w → MayResume w × Whole i m x (record { me = n.me; awake = n.awake; took = z.transfer.attempt; top = n.top; committed = n.committed; asked = n.asked; state = Copying (recount z.transfer k s t v) }) o (resumed z.transfer.attempt w)
+pub again_whole : {i m : ℕ} {x : List (List ℕ)} {n o : Node} {w : World} (z : Pause) (k s t : ℕ) (v : Option ℕ) → n.state ≡ Paused z → Whole i m x n o w → MayResume w × Whole i m x (record { me = n.me; awake = n.awake; took = z.transfer.attempt; top = n.top; committed = n.committed; asked = n.asked; state = Copying (recount z.transfer k s t v) }) o (resumed z.transfer.attempt w)
 again_whole {w = w} z k s t v e h = (may_resume w (may_go (seen w) (h.both.ours.guest.paused z e)), went_whole z.transfer.attempt h (go_again z k s t v e h.both))
 
 -- STOP
@@ -333,5 +333,5 @@ step_err_own h e (falls_before v u f) p k = fell_whole f (counted_whole k)
 step_err_own h e (falls_after v u f) p k = fell_own h e f k
 step_err_own {w = w} h e (down t) p k = absurd (both_ways w.fell p (is_true w.fell t))
 
-pub skip_copying_whole : {i m : ℕ} {x : List (List ℕ)} {n o : Node} {w : World} (c : Transfer) (p k s t v : ℕ) → n.state ≡ Copying c → (me w).touched p ≡ false → Whole i m x n o w → Whole i m x (on_state (Copying (recount c k s t v)) n) o (untouched p w)
+pub skip_copying_whole : {i m : ℕ} {x : List (List ℕ)} {n o : Node} {w : World} (c : Transfer) (p k s t : ℕ) (v : Option ℕ) → n.state ≡ Copying c → (me w).touched p ≡ false → Whole i m x n o w → Whole i m x (on_state (Copying (recount c k s t v)) n) o (untouched p w)
 skip_copying_whole {w = w} c p k s t v e f h = own_whole (clear p (me w)) h (skip_copying c p k s t v e f h.both)

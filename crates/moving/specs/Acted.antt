@@ -1,6 +1,6 @@
 -- What a host's own act, the letters of a turn and a whole turn make of its node, if nothing falls. pages: how many there are; most: how often it may ask at most.
 -- Assumes nothing.
-use Rattle.std.specs.Prelude.{◌≡◌, ℕ, ◌+◌, ◌-◌, ◌%◌, ◌<◌, ◌≤◌, min, Bool, true, false, ◌||◌, List, [], ◌∷◌, ◌++◌, nat_lt}
+use Rattle.std.specs.Prelude.{◌≡◌, ℕ, ◌+◌, ◌-◌, ◌%◌, ◌<◌, ◌≤◌, min, Bool, true, false, ◌||◌, List, [], ◌∷◌, ◌++◌, None, nat_lt, length}
 use Rattle.letter.specs.declared.Letter.{Letter}
 use Rattle.moving.specs.declared.state.Transfer.{Transfer}
 use Rattle.moving.specs.declared.state.Running.{Running as Run}
@@ -43,13 +43,13 @@ pub record New (pages : ℕ) (n : Node) (c : Transfer) : Type 0 where
   pub above : n.top < c.attempt
   pub least : c.attempt ≤ n.top + 2
   pub own : c.attempt % 2 ≡ n.me
-  pub empty : c.window.len ≡ 0
+  pub empty : length c.window.pages ≡ 0
   pub base : c.window.base ≡ 0
   pub all : (p : ℕ) → unsent c p ≡ nat_lt p pages
   pub cursor : c.cursor ≡ 0
   pub sent : c.sent ≡ 0
   pub turns : c.turns ≡ 0
-  pub prev : c.prev ≡ 4294967295
+  pub prev : c.prev ≡ None
 
 -- The guest runs here and nobody wants it elsewhere (told: what was answered to that), or an attempt begins.
 pub data RunDid (pages most : ℕ) (told : Bool) (x : Run) (n m : Node) : Type 0 where
@@ -86,10 +86,10 @@ pub record Heard (pages : ℕ) (n m : Node) : Type 0 where
   pub letters : List Letter
   pub hears : Hears pages n letters m
 
--- k letters have come, 1 at most: nothing has changed, or it was l.
-pub data OneHeard (pages k : ℕ) (n m : Node) : Type 0 where
-  nothing : m ≡ n → OneHeard pages k n m
-  letter : (l : Letter) → k ≡ 1 → m ≡ heeded pages l n → OneHeard pages k n m
+-- b: a letter has come. Nothing has changed, or it was l.
+pub data OneHeard (pages : ℕ) (b : Bool) (n m : Node) : Type 0 where
+  nothing : m ≡ n → OneHeard pages b n m
+  letter : (l : Letter) → b ≡ true → m ≡ heeded pages l n → OneHeard pages b n m
 
 -- A whole turn in which nothing falls: it wakes, hears letters, acts with 124 asks or more, and has answered who asked.
 pub record Turned (w : World) (n m : Node) : Type 0 where

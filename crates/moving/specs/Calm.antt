@@ -5,8 +5,7 @@ use Rattle.letter.specs.declared.Kind.TheVariants.{Probe, Page}
 use Rattle.letter.specs.Words.{head, letter_of}
 use Rattle.pageset.specs.Count.{count, count_from}
 use Rattle.pageset.specs.Member.{member}
-use Rattle.window.specs.declared.Window.{Window}
-use Rattle.window.specs.Pages.{pages_of}
+use Rattle.window.specs.Pages.{Flying}
 use Rattle.moving.specs.declared.Node.{Node}
 use Rattle.moving.specs.declared.turning.Answer.{Answer}
 use Rattle.moving.specs.declared.state.Transfer.{Transfer}
@@ -98,11 +97,11 @@ page_heads t s [] = []
 page_heads t s (p ∷ ps) = head Page t s p ∷ page_heads t (s + 1) ps
 
 -- A probe, and the pages of a window; and the first i of them.
-abbrev pub asked_of : ℕ → Window → List (List ℕ)
-asked_of t v = head Probe t 0 0 ∷ page_heads t v.base (pages_of v)
+abbrev pub asked_of : ℕ → Flying → List (List ℕ)
+asked_of t v = head Probe t 0 0 ∷ page_heads t v.base v.pages
 
-abbrev pub asked_up_to : ℕ → ℕ → Window → List (List ℕ)
-asked_up_to i t v = head Probe t 0 0 ∷ page_heads t v.base (take i (pages_of v))
+abbrev pub asked_up_to : ℕ → ℕ → Flying → List (List ℕ)
+asked_up_to i t v = head Probe t 0 0 ∷ page_heads t v.base (take i v.pages)
 
 -- That is what waits for the other.
 abbrev pub AskedTo : ℕ → Transfer → World → Type 0

@@ -1,6 +1,6 @@
 -- What holds between turns, of the node of the host whose turn it is, the other's, and the world.
 -- Assumes nothing.
-use Rattle.std.specs.Prelude.{◌≡◌, ℕ, ◌+◌, ◌-◌, ◌%◌, ◌<◌, ◌≤◌, Bool, true, false, cond, not, ◌⊎◌, List, [], drop, Some, None, Ok, Err, Result, ◌==◌, ◌≢◌, slice_index}
+use Rattle.std.specs.Prelude.{◌≡◌, ℕ, ◌+◌, ◌-◌, ◌%◌, ◌<◌, ◌≤◌, Bool, true, false, cond, not, ◌⊎◌, List, [], drop, Some, None, Ok, Err, Result, ◌==◌, ◌≢◌, slice_index, length}
 use mathlib.Core.List.{Memᴰ}
 use Rattle.pageset.specs.Member.{member}
 use Rattle.window.specs.Pages as pages
@@ -68,11 +68,11 @@ abbrev pub slot : Transfer → ℕ → ℕ
 slot c k = pages.slot c.window k
 
 abbrev pub end : Transfer → ℕ
-end c = c.window.base + c.window.len
+end c = c.window.base + length c.window.pages
 
 -- the window has page p at place s or later
 abbrev pub Flies : Transfer → ℕ → ℕ → Type 0
-Flies c p s = (k : ℕ) × (k < c.window.len) × (slot c k ≡ p) × (s ≤ c.window.base + k)
+Flies c p s = (k : ℕ) × (k < length c.window.pages) × (slot c k ≡ p) × (s ≤ c.window.base + k)
 
 -- STATES
 -- it has the guest, and it runs
@@ -144,7 +144,7 @@ Under next c u =
 -- A transfer: its number is the host's own and its highest, neither committed nor taken; and what the other has of it.
 abbrev pub Carries : ℕ → Transfer → Node → View → Type 0
 Carries m c o u =
-    record { attempt : c.attempt ≡ u.mine.cell 1; own : c.attempt % 2 ≡ u.me; done : u.mine.cell 2 < c.attempt; took : u.theirs.cell 0 < c.attempt; most : end c ≤ m; ways : ((k : ℕ) → k < c.window.len → slot c k < u.pages); base : (u.theirs.cell 1 < c.attempt → c.window.base ≡ 0); every : (u.theirs.cell 1 < c.attempt → (p : ℕ) → p < u.pages → unsent c p ≡ false → Flies c p 0); under : ((r : Reception) → o.state ≡ Receiving r → r.attempt ≡ c.attempt → Under r.next c u) }
+    record { attempt : c.attempt ≡ u.mine.cell 1; own : c.attempt % 2 ≡ u.me; done : u.mine.cell 2 < c.attempt; took : u.theirs.cell 0 < c.attempt; most : end c ≤ m; ways : ((k : ℕ) → k < length c.window.pages → slot c k < u.pages); base : (u.theirs.cell 1 < c.attempt → c.window.base ≡ 0); every : (u.theirs.cell 1 < c.attempt → (p : ℕ) → p < u.pages → unsent c p ≡ false → Flies c p 0); under : ((r : Reception) → o.state ≡ Receiving r → r.attempt ≡ c.attempt → Under r.next c u) }
 
 -- Whatever is transferred is carried; and of a guest that was stopped, the pages that were looked at are sent.
 abbrev pub Copy : ℕ → Node → Node → View → Type 0
@@ -228,18 +228,18 @@ pub record Carrying (k : ℕ) (c : Transfer) (w : World) : Type 0 where
 pub record Pushed (c d : Transfer) (p : ℕ) : Type 0 where
   pub attempt : d.attempt ≡ c.attempt
   pub base : d.window.base ≡ c.window.base
-  pub len : d.window.len ≡ c.window.len + 1
-  pub last : slot d c.window.len ≡ p
-  pub old : (k : ℕ) → k < c.window.len → slot d k ≡ slot c k
+  pub len : length d.window.pages ≡ length c.window.pages + 1
+  pub last : slot d (length c.window.pages) ≡ p
+  pub old : (k : ℕ) → k < length c.window.pages → slot d k ≡ slot c k
   pub sent : unsent d p ≡ false
   pub kept : (q : ℕ) → (q ≢ p) → unsent d q ≡ unsent c q
-  pub free : (k : ℕ) → k < c.window.len → slot c k ≢ p
+  pub free : (k : ℕ) → k < length c.window.pages → slot c k ≢ p
 
 -- the places below s leave the window
 pub record Acked (c d : Transfer) (s : ℕ) : Type 0 where
   pub attempt : d.attempt ≡ c.attempt
   pub base : d.window.base ≡ s
-  pub len : s + d.window.len ≡ end c
+  pub len : s + length d.window.pages ≡ end c
   pub low : c.window.base ≤ s
-  pub old : (k : ℕ) → k < d.window.len → slot d k ≡ slot c (k + (s - c.window.base))
+  pub old : (k : ℕ) → k < length d.window.pages → slot d k ≡ slot c (k + (s - c.window.base))
   pub kept : (q : ℕ) → unsent d q ≡ unsent c q

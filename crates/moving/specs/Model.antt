@@ -1,6 +1,6 @@
 -- What a node remembers: what each letter, and each thing that it does by itself, makes of it.
 -- Assumes nothing.
-use Rattle.std.specs.Prelude.{◌≡◌, ℕ, ◌+◌, ◌-◌, ◌*◌, ◌%◌, ◌≤◌, min, Bool, true, false, cond, ◌&&◌, replicate, Some, None, Option, ◌==◌, nat_le, nat_lt}
+use Rattle.std.specs.Prelude.{◌≡◌, ℕ, ◌+◌, ◌-◌, ◌*◌, ◌%◌, ◌≤◌, min, Bool, true, false, cond, ◌&&◌, replicate, Some, None, Option, ◌==◌, nat_le, nat_lt, length}
 use Rattle.letter.specs.declared.Kind.{Kind}
 use Rattle.letter.specs.declared.Kind.TheVariants.{Probe, Page, Commit, Ack, Refuse, Taken}
 use Rattle.letter.specs.declared.Letter.{Letter}
@@ -26,29 +26,38 @@ moving (Paused x) = Some x.transfer
 moving (Committed x) = None
 
 -- The same with other counts.
-abbrev pub recount : Transfer → (cursor sent turns prev : ℕ) → Transfer
+abbrev pub recount : Transfer → (cursor sent turns : ℕ) → Option ℕ → Transfer
 recount c k s t v = record { attempt = c.attempt; window = c.window; unsent = c.unsent; cursor = k; sent = s; turns = t; prev = v }
 
 -- A turn more of the pass, counted up to 2^32 - 1.
 abbrev pub ticked : Transfer → Transfer
 ticked c = recount c c.cursor c.sent (min (c.turns + 1) 4294967295) c.prev
 
--- A new pass.
-abbrev pub anew : Transfer → Transfer
-anew c = recount c 0 0 0 c.turns
+-- A new pass; v: how many turns the pass before took, if one came before.
+abbrev pub new_pass : Option ℕ → Transfer → Transfer
+new_pass v c = recount c 0 0 0 v
 
--- A new pass that doesn't count as one after another.
+-- One after this pass.
+abbrev pub anew : Transfer → Transfer
+anew c = new_pass (Some c.turns) c
+
+-- One that doesn't count as one after another.
 abbrev pub afresh : Transfer → Transfer
-afresh c = recount c 0 0 0 4294967295
+afresh c = new_pass None c
+
+-- The pass before took few turns, so that one may begin with a stop; none does if no pass came before.
+abbrev pub short_before : Option ℕ → Bool
+short_before None = false
+short_before (Some t) = nat_le t 37
 
 -- The pass is over: all pages were looked at, and none is on its way.
 abbrev pub over : ℕ → Transfer → Bool
-over pages c = c.window.len == 0 && c.cursor == pages
+over pages c = length c.window.pages == 0 && c.cursor == pages
 
 -- The other host has put all places of this attempt below s.
 abbrev pub acked : ℕ → ℕ → Transfer → Transfer
 acked t s c =
-    cond ((c.attempt == t && nat_lt c.window.base s) && nat_le s (c.window.base + c.window.len))
+    cond ((c.attempt == t && nat_lt c.window.base s) && nat_le s (c.window.base + length c.window.pages))
     (record { attempt = c.attempt; window = dropped (s - c.window.base) c.window; unsent = c.unsent; cursor = c.cursor; sent = c.sent; turns = c.turns; prev = c.prev }) c
 
 -- A state with another transfer.
@@ -184,8 +193,9 @@ Windowed (Committed x) = Unit {0}
 abbrev pub AskedWell : Node → Type 0
 AskedWell n = (t : ℕ) → n.asked ≡ Some t → (t % 2 ≡ 1 - n.me) × (1 ≤ t) × (t ≤ n.top)
 
--- What holds of a node alone.
+-- What holds of a node alone in its turn, once it has read its cells.
 pub record Tidy (n : Node) : Type 0 where
+  pub awake : n.awake ≡ true
   pub windowed : Windowed n.state
   pub asked : AskedWell n
 
@@ -194,8 +204,8 @@ abbrev pub Enough : ℕ → State → Type 0
 Enough most Away = Unit {0}
 Enough most (Receiving x) = Unit {0}
 Enough most (Running x) = 3 ≤ most
-Enough most (Copying x) = 2 + 2 * x.window.len ≤ most
-Enough most (Paused x) = 2 + 2 * x.transfer.window.len ≤ most
+Enough most (Copying x) = 2 + 2 * length x.window.pages ≤ most
+Enough most (Paused x) = 2 + 2 * length x.transfer.window.pages ≤ most
 Enough most (Committed x) = 1 ≤ most
 
 -- A TURN'S BEGINNING AND END

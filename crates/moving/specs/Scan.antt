@@ -1,15 +1,16 @@
 -- A pass over the pages: what a look at one makes of a transfer, and what many do.
 -- Assumes nothing.
-use Rattle.std.specs.Prelude.{◌≡◌, ℕ, ◌+◌, ◌-◌, ◌*◌, ◌<◌, ◌≤◌, min, Bool, cond, not, ◌&&◌, ◌||◌, ◌⊎◌, List, [], ◌∷◌, ◌++◌, Ok, Err, Result, ◌==◌}
+use Rattle.std.specs.Prelude.{◌≡◌, ℕ, ◌+◌, ◌-◌, ◌*◌, ◌<◌, ◌≤◌, min, Bool, cond, not, ◌&&◌, ◌||◌, ◌⊎◌, List, [], ◌∷◌, ◌++◌, Ok, Err, Result, ◌==◌, length}
 use Rattle.window.specs.Pages.{pushed}
 use Rattle.pageset.specs.Member.{member}
+use Rattle.pageset.specs.Count.{bit}
 use Rattle.moving.specs.declared.Down.{Down}
 use Rattle.moving.specs.declared.state.Transfer.{Transfer}
 use Rattle.moving.specs.Invariant.{slot}
 
 -- While a pass goes on, the pages in the window are below the cursor.
 abbrev pub Below : Transfer → Type 0
-Below c = (k : ℕ) → k < c.window.len → slot c k < c.cursor
+Below c = (k : ℕ) → k < length c.window.pages → slot c k < c.cursor
 
 -- Is the page at the cursor to be sent? b: it was written since that was last asked.
 abbrev pub due : Bool → Transfer → Bool
@@ -25,9 +26,9 @@ pub record Looked (b : Bool) (x y : Transfer) : Type 0 where
   pub turns : y.turns ≡ x.turns
   pub prev : y.prev ≡ x.prev
 
--- By how much numbers grow at a look: by as many as were sent, and where the host fell by one at most.
-abbrev pub grows : Result ℕ Down → ℕ
-grows (Ok k) = k
+-- By how much numbers grow at a look: by one if the page was sent, and where the host fell by one at most.
+abbrev pub grows : Result Bool Down → ℕ
+grows (Ok b) = bit b
 grows (Err x) = 1
 
 -- Looks at one page after the other, with the answers bs.
@@ -41,10 +42,10 @@ pub data Looks (x : Transfer) : List Bool → Transfer → Type 0 where
 pub record Scanned (pages most : ℕ) (x y : Transfer) : Type 0 where
   pub answers : List Bool
   pub looks : Looks x answers y
-  pub cost : y.cursor + 2 * y.window.len ≤ x.cursor + most
-  pub ends : (x.cursor + most < y.cursor + 2 * y.window.len + 3) ⊎ ((y.window.len ≡ 62) ⊎ (pages ≤ y.cursor))
+  pub cost : y.cursor + 2 * length y.window.pages ≤ x.cursor + most
+  pub ends : (x.cursor + most < y.cursor + 2 * length y.window.pages + 3) ⊎ ((length y.window.pages ≡ 62) ⊎ (pages ≤ y.cursor))
 
 -- With so many asks at most: what is on its way is sent again, and nothing else changes; if nothing is, the pass goes on.
 pub record GoneOn (pages most : ℕ) (x y : Transfer) : Type 0 where
-  pub same : 0 < x.window.len → y ≡ x
-  pub goes : x.window.len ≡ 0 → Scanned pages (most - 1) x y
+  pub same : 0 < length x.window.pages → y ≡ x
+  pub goes : length x.window.pages ≡ 0 → Scanned pages (most - 1) x y

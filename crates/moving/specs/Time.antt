@@ -16,10 +16,18 @@ use Rattle.moving.specs.Model.{moving}
 use Rattle.moving.specs.Invariant.{unsent, end}
 use Rattle.moving.specs.Calm.{heads, asked_of}
 
+-- How many turns the pass before took, as a number for the sums below; where none came before, 2^32 - 1, which no count of calm rounds in them reaches.
+abbrev pub turns_in : Option ℕ → ℕ
+turns_in None = 4294967295
+turns_in (Some t) = t
+
+abbrev pub past : Transfer → ℕ
+past x = turns_in x.prev
+
 -- OF A NODE ALONE, whatever has happened: a pass has had a turn, has sent no more pages than it has looked at, and these are not unsent any more.
 pub record PassWell (pages : ℕ) (x : Transfer) : Type 0 where
   pub turns : 1 ≤ x.turns
-  pub prev : 1 ≤ x.prev
+  pub prev : 1 ≤ past x
   pub cursor : x.cursor ≤ pages
   pub sent : x.sent ≤ x.cursor
   pub below : (q : ℕ) → q < x.cursor → unsent x q ≡ false
@@ -29,7 +37,7 @@ pub record PauseWell (pages : ℕ) (x : Pause) : Type 0 where
   pub pass : PassWell pages x.transfer
   pub turns : x.transfer.turns ≡ x.turns
   pub most : x.turns ≤ 27
-  pub prev : x.transfer.prev ≤ 37
+  pub prev : past x.transfer ≤ 37
 
 abbrev pub Paced : ℕ → State → Type 0
 Paced pages Away = Unit {0}
@@ -45,7 +53,7 @@ Paced pages (Committed x) = Unit {0}
 pub record Pace (pages calm : ℕ) (x : Transfer) : Type 0 where
   pub far : (k : ℕ) → k ≤ x.turns → k + 3 ≤ calm → x.cursor < pages → 248 * k ≤ x.cursor + 3 * x.sent
   pub near : (k : ℕ) → k + 1 ≤ x.turns → k + 4 ≤ calm → 248 * k ≤ x.cursor + 3 * x.sent
-  pub before : x.prev + x.turns + 3 ≤ calm → 248 * x.prev ≤ 4 * pages + 248
+  pub before : past x + x.turns + 3 ≤ calm → 248 * past x ≤ 4 * pages + 248
 
 -- How many pages of this pass are still to be sent, by who was written.
 abbrev pub rest : ℕ → (ℕ → Bool) → Transfer → ℕ
@@ -57,14 +65,14 @@ rest pages touched x = count_from (λ q. touched q || unsent x q) x.cursor pages
 pub record CopyPace (pages calm : ℕ) (touched : ℕ → Bool) (x : Transfer) : Type 0 where
   pub pace : Pace pages calm x
   pub dirty : x.turns ≤ calm → count touched x.cursor ≤ 16 * x.turns
-  pub due : x.prev + x.turns ≤ calm → x.sent + rest pages touched x ≤ 16 * (x.prev + x.turns)
-  pub late : x.turns + 3 ≤ calm → calm < x.prev + x.turns + 3 → 248 * calm ≤ 4 * pages + 248 * (x.turns + 70)
-  pub later : x.prev + x.turns + 3 ≤ calm → 248 * calm ≤ 4 * pages + 248 * (x.turns + x.prev + 70)
+  pub due : past x + x.turns ≤ calm → x.sent + rest pages touched x ≤ 16 * (past x + x.turns)
+  pub late : x.turns + 3 ≤ calm → calm < past x + x.turns + 3 → 248 * calm ≤ 4 * pages + 248 * (x.turns + 70)
+  pub later : past x + x.turns + 3 ≤ calm → 248 * calm ≤ 4 * pages + 248 * (x.turns + past x + 70)
 
 -- It stands, and writes nothing.
 pub record PausePace (pages calm still : ℕ) (touched : ℕ → Bool) (x : Pause) : Type 0 where
   pub pace : Pace pages calm x.transfer
-  pub due : x.transfer.prev + x.transfer.turns ≤ calm → x.transfer.sent + rest pages touched x.transfer ≤ 16 * (x.transfer.prev + 1)
+  pub due : past x.transfer + x.transfer.turns ≤ calm → x.transfer.sent + rest pages touched x.transfer ≤ 16 * (past x.transfer + 1)
   pub late : 248 * calm ≤ 8 * pages + 248 * (x.turns + 108)
   pub since : still ≤ x.turns
 

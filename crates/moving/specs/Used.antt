@@ -8,15 +8,13 @@ pub record Soon (n : ℕ) (w : World) : Type 0 where
   pub left : n ≤ w.left
   pub up : w.fell ≡ false
 
--- It asked n times at most; it has fallen just if the answer isn't Ok, and then it was rough. The guest has as many pages as before.
+-- It asked n times at most; it has fallen just if the answer isn't Ok, and then it was rough. The guest has as many pages as before,
+-- and the calm rounds that the world has counted are those that it had, whatever has happened since.
 pub record Used (n : ℕ) (w : World) (ok : Bool) (v : World) : Type 0 where
   pub left : w.left ≤ v.left + n
   pub fell : ok ≡ not v.fell
   pub pages : v.pages ≡ w.pages
   pub fall : (ok || v.rough) ≡ true
-
--- The calm rounds that the world has counted are those that it had, whatever has happened since.
-pub record Steady (w v : World) : Type 0 where
   pub calm : v.calm ≡ w.calm
   pub still : v.still ≡ w.still
 

@@ -1,12 +1,12 @@
 // What a node does by itself in its turn.
-ghost use Rattle.std.specs.Prelude.{◌≡◌, ℕ, ◌+◌, ◌-◌, ◌*◌, ◌%◌, ◌<◌, ◌≤◌, Bool, true, false, ◌||◌, List, [], is_ok, IfOk, Some, None, OnOk};
+ghost use Rattle.std.specs.Prelude.{◌≡◌, ℕ, ◌+◌, ◌-◌, ◌*◌, ◌%◌, ◌<◌, ◌≤◌, Bool, true, false, ◌||◌, List, [], length, is_ok, IfOk, Some, None, OnOk};
 ghost use Rattle.window.specs.Pages.{Sound};
 ghost use Rattle.letter.specs.Words.{head};
-ghost use Rattle.moving.specs.Used.{Soon, Used, Steady};
+ghost use Rattle.moving.specs.Used.{Soon, Used};
 ghost use Rattle.moving.specs.Calm.{Still, Added};
 ghost use Rattle.moving.specs.Over.{CopiesOver, RunOver, CopyOver, PauseOver, ActedOver};
 ghost use Rattle.moving.specs.Hosts.{me};
-ghost use Rattle.moving.specs.Model.{Tidy, on_state, on_top, Enough, ticked, afresh};
+ghost use Rattle.moving.specs.Model.{Tidy, on_state, on_top, Enough, ticked, afresh, short_before};
 ghost use Rattle.moving.specs.Acted.{Copies, New, RunDid, CopyDid, PauseDid, ActedIn, commits, said_again, took_for};
 ghost use Rattle.moving.specs.Invariant.{Ready, Keeps};
 
@@ -33,15 +33,25 @@ fn next_attempt(top: u64, me: u64) -> u64
     t + 1
 }
 
+impl Transfer {
+    // A pass came before this one, and took few turns: then this one may begin with a stop.
+    fn follows_short_pass(&self) -> bool
+        ensures { result ≡ short_before self.now.prev }
+    {
+        match self.prev {
+            Some(turns) => turns <= LONG_PASS,
+            None => false,
+        }
+    }
+}
+
 impl Node {
     // Whether the guest, which runs here, is to be moved.
     fn wants<P: Place>(&mut self, w: &mut P, x: Running) -> Result<bool, Down>
         requires soon { Soon 1 (P.world w.old) }
-        requires awake { self.old.awake ≡ true }
         requires tidy { Tidy (on_state (State.Running x) self.old) }
         requires ready { Ready 0 [] (on_state (State.Running x) self.old) (P.world w.old) }
         ensures used { Used 1 (P.world w.old) (is_ok result) (P.world w.new) }
-        ensures steady { Steady (P.world w.old) (P.world w.new) }
         ensures is { IfOk result (λ b. self.new ≡ on_state (State.Running (record { wanted = b })) self.old) }
         ensures value { IfOk result (λ b. b ≡ (x.wanted || (me (P.world w.old)).told)) }
         ensures line { OnOk result (Still (P.world w.old) (P.world w.new)) }
@@ -59,14 +69,12 @@ impl Node {
     // A new attempt.
     fn attempt<P: Place>(&mut self, w: &mut P) -> Result<Transfer, Down>
         requires soon { Soon 1 (P.world w.old) }
-        requires awake { self.old.awake ≡ true }
         requires tidy { Tidy self.old }
         requires ready { Ready 2 [] self.old (P.world w.old) }
         requires wanted { self.old.state ≡ State.Running (record { wanted = true }) }
         ensures used { Used 1 (P.world w.old) (is_ok result) (P.world w.new) }
-        ensures steady { Steady (P.world w.old) (P.world w.new) }
         ensures is { IfOk result (λ c. self.new ≡ on_top c.attempt self.old.state self.old) }
-        ensures new { IfOk result (λ c. Sound c.window × (c.window.len ≡ 0) × (self.old.top < c.attempt)) }
+        ensures new { IfOk result (λ c. Sound c.window × (length c.window.pages ≡ 0) × (self.old.top < c.attempt)) }
         ensures pass { IfOk result (λ c. New (P.world w.old).pages self.old c) }
         ensures line { OnOk result (Still (P.world w.old) (P.world w.new)) }
         ensures keeps { Keeps 2 [] self.old (P.world w.old) result (λ c. on_state (State.Copying c) self.new) (P.world w.new) }
@@ -81,14 +89,11 @@ impl Node {
     // The guest runs here: if it is to be moved, an attempt begins.
     fn run<P: Place>(&mut self, w: &mut P, x: Running, most: u32) -> Result<(), Down>
         requires soon { Soon most (P.world w.old) }
-        requires awake { self.old.awake ≡ true }
         requires tidy { Tidy (on_state (State.Running x) self.old) }
         requires ready { Ready 64 [] (on_state (State.Running x) self.old) (P.world w.old) }
         requires enough { 3 ≤ most }
         ensures used { Used most (P.world w.old) (is_ok result) (P.world w.new) }
-        ensures steady { Steady (P.world w.old) (P.world w.new) }
         ensures tidy { OnOk result (Tidy self.new) }
-        ensures awake { OnOk result (self.new.awake ≡ true) }
         ensures is { OnOk result (RunDid (P.world w.old).pages most (me (P.world w.old)).told x (on_state State.Away self.old) self.new) }
         ensures makes { OnOk result (RunOver (P.world w.old).pages most (me (P.world w.old)).told x (on_state State.Away self.old) (P.world w.old) self.new (P.world w.new)) }
         ensures keeps { Keeps 64 [] (on_state (State.Running x) self.old) (P.world w.old) result (λ _. self.new) (P.world w.new) }
@@ -105,14 +110,11 @@ impl Node {
     // The guest runs here and is copied: after a short pass it is stopped.
     fn copy<P: Place>(&mut self, w: &mut P, x: Transfer, most: u32) -> Result<(), Down>
         requires soon { Soon most (P.world w.old) }
-        requires awake { self.old.awake ≡ true }
         requires tidy { Tidy (on_state (State.Copying x) self.old) }
         requires ready { Ready 62 [] (on_state (State.Copying x) self.old) (P.world w.old) }
-        requires enough { 2 + 2 * x.window.len ≤ most }
+        requires enough { 2 + 2 * length x.window.pages ≤ most }
         ensures used { Used most (P.world w.old) (is_ok result) (P.world w.new) }
-        ensures steady { Steady (P.world w.old) (P.world w.new) }
         ensures tidy { OnOk result (Tidy self.new) }
-        ensures awake { OnOk result (self.new.awake ≡ true) }
         ensures is { OnOk result (CopyDid (P.world w.old).pages most x (on_state State.Away self.old) self.new) }
         ensures makes { OnOk result (CopyOver (P.world w.old).pages most x (on_state State.Away self.old) (P.world w.old) self.new (P.world w.new)) }
         ensures keeps { Keeps 62 [] (on_state (State.Copying x) self.old) (P.world w.old) result (λ _. self.new) (P.world w.new) }
@@ -123,8 +125,9 @@ impl Node {
             self.state = State::Copying(y);
             return Ok(());
         }
-        let mut y = x.anew().tick();
-        if y.prev > LONG_PASS {
+        let turns = x.turns;
+        let mut y = x.new_pass(Some(turns)).tick();
+        if !y.follows_short_pass() {
             y.go_on(w, most)?;
             self.state = State::Copying(y);
             return Ok(());
@@ -142,15 +145,12 @@ impl Node {
     // All is there: the attempt is committed.
     fn commit<P: Place>(&mut self, w: &mut P, x: Paused) -> Result<(), Down>
         requires soon { Soon 2 (P.world w.old) }
-        requires awake { self.old.awake ≡ true }
         requires tidy { Tidy (on_state (State.Paused x) self.old) }
         requires ready { Ready 0 [] (on_state (State.Paused x) self.old) (P.world w.old) }
-        requires none { x.transfer.window.len ≡ 0 }
+        requires none { length x.transfer.window.pages ≡ 0 }
         requires all { x.transfer.cursor ≡ (P.world w.old).pages }
         ensures used { Used 2 (P.world w.old) (is_ok result) (P.world w.new) }
-        ensures steady { Steady (P.world w.old) (P.world w.new) }
         ensures tidy { OnOk result (Tidy self.new) }
-        ensures awake { OnOk result (self.new.awake ≡ true) }
         ensures is { OnOk result (self.new ≡ commits x.transfer.attempt self.old) }
         ensures line { OnOk result (Added (head Kind.Commit x.transfer.attempt 0 0) (P.world w.old) (P.world w.new)) }
         ensures keeps { Keeps 0 [] (on_state (State.Paused x) self.old) (P.world w.old) result (λ _. self.new) (P.world w.new) }
@@ -170,14 +170,11 @@ impl Node {
     // It stands too long: the guest goes on here, and is copied on.
     fn give_up<P: Place>(&mut self, w: &mut P, x: Paused, most: u32) -> Result<(), Down>
         requires soon { Soon most (P.world w.old) }
-        requires awake { self.old.awake ≡ true }
         requires tidy { Tidy (on_state (State.Paused x) self.old) }
         requires ready { Ready 62 [] (on_state (State.Paused x) self.old) (P.world w.old) }
-        requires enough { 2 + 2 * x.transfer.window.len ≤ most }
+        requires enough { 2 + 2 * length x.transfer.window.pages ≤ most }
         ensures used { Used most (P.world w.old) (is_ok result) (P.world w.new) }
-        ensures steady { Steady (P.world w.old) (P.world w.new) }
         ensures tidy { OnOk result (Tidy self.new) }
-        ensures awake { OnOk result (self.new.awake ≡ true) }
         ensures is { OnOk result (Copies (P.world w.old).pages (most - 1) (ticked (afresh x.transfer)) (took_for x.transfer.attempt (on_state State.Away self.old)) self.new) }
         ensures makes { OnOk result (CopiesOver (P.world w.old).pages (most - 1) (ticked (afresh x.transfer)) (took_for x.transfer.attempt (on_state State.Away self.old)) (P.world w.old) self.new (P.world w.new)) }
         ensures keeps { Keeps 62 [] (on_state (State.Paused x) self.old) (P.world w.old) result (λ _. self.new) (P.world w.new) }
@@ -187,7 +184,7 @@ impl Node {
             right,
             turns: _,
         } = x;
-        let mut y = transfer.afresh().tick();
+        let mut y = transfer.new_pass(None).tick();
         right.resume(w)?;
         self.took = y.attempt;
         y.go_on(w, most - 1)?;
@@ -198,14 +195,11 @@ impl Node {
     // The guest was stopped here: the rest of it is sent, and then the attempt is committed.
     fn pause<P: Place>(&mut self, w: &mut P, x: Paused, most: u32) -> Result<(), Down>
         requires soon { Soon most (P.world w.old) }
-        requires awake { self.old.awake ≡ true }
         requires tidy { Tidy (on_state (State.Paused x) self.old) }
         requires ready { Ready 62 [] (on_state (State.Paused x) self.old) (P.world w.old) }
-        requires enough { 2 + 2 * x.transfer.window.len ≤ most }
+        requires enough { 2 + 2 * length x.transfer.window.pages ≤ most }
         ensures used { Used most (P.world w.old) (is_ok result) (P.world w.new) }
-        ensures steady { Steady (P.world w.old) (P.world w.new) }
         ensures tidy { OnOk result (Tidy self.new) }
-        ensures awake { OnOk result (self.new.awake ≡ true) }
         ensures is { OnOk result (PauseDid (P.world w.old).pages most x (on_state State.Away self.old) self.new) }
         ensures makes { OnOk result (PauseOver (P.world w.old).pages most x (on_state State.Away self.old) (P.world w.old) self.new (P.world w.new)) }
         ensures keeps { Keeps 62 [] (on_state (State.Paused x) self.old) (P.world w.old) result (λ _. self.new) (P.world w.new) }
@@ -234,13 +228,10 @@ impl Node {
     // The attempt is committed: the other host is told so again.
     fn say_again<P: Place>(&mut self, w: &mut P, x: Committed) -> Result<(), Down>
         requires soon { Soon 1 (P.world w.old) }
-        requires awake { self.old.awake ≡ true }
         requires tidy { Tidy (on_state (State.Committed x) self.old) }
         requires ready { Ready 0 [] (on_state (State.Committed x) self.old) (P.world w.old) }
         ensures used { Used 1 (P.world w.old) (is_ok result) (P.world w.new) }
-        ensures steady { Steady (P.world w.old) (P.world w.new) }
         ensures tidy { OnOk result (Tidy self.new) }
-        ensures awake { OnOk result (self.new.awake ≡ true) }
         ensures is { OnOk result (self.new ≡ said_again x self.old) }
         ensures line { OnOk result (Added (head Kind.Commit x.attempt 0 0) (P.world w.old) (P.world w.new)) }
         ensures keeps { Keeps 0 [] (on_state (State.Committed x) self.old) (P.world w.old) result (λ _. self.new) (P.world w.new) }
@@ -257,14 +248,11 @@ impl Node {
     // What it does by itself, with so many asks at most.
     pub fn act<P: Place>(&mut self, w: &mut P, most: u32) -> Result<(), Down>
         requires soon { Soon most (P.world w.old) }
-        requires awake { self.old.awake ≡ true }
         requires tidy { Tidy self.old }
         requires ready { Ready 64 [] self.old (P.world w.old) }
         requires enough { Enough most self.old.state }
         ensures used { Used most (P.world w.old) (is_ok result) (P.world w.new) }
-        ensures steady { Steady (P.world w.old) (P.world w.new) }
         ensures tidy { OnOk result (Tidy self.new) }
-        ensures awake { OnOk result (self.new.awake ≡ true) }
         ensures is { OnOk result (ActedIn (P.world w.old).pages most (me (P.world w.old)).told self.old.state (on_state State.Away self.old) self.new) }
         ensures makes { OnOk result (ActedOver (P.world w.old).pages most (me (P.world w.old)).told self.old.state (on_state State.Away self.old) (P.world w.old) self.new (P.world w.new)) }
         ensures keeps { Keeps 64 [] self.old (P.world w.old) result (λ _. self.new) (P.world w.new) }

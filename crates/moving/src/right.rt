@@ -1,9 +1,10 @@
 // The right to resume the guest here: a value that can't be copied, so it is used once. That it's made only when it may be is in `resume`'s contract.
 ghost use Rattle.std.specs.Prelude.{◌≡◌, ℕ, is_ok, IfOk, OnOk};
 ghost use Rattle.moving.specs.Hosts.{Does, MayStop, MayResume, kept, stopped, resumed};
-ghost use Rattle.moving.specs.Used.{Soon, Used, Steady};
+ghost use Rattle.moving.specs.Used.{Soon, Used};
 ghost use Rattle.moving.specs.Calm.{Offline, Still};
 
+use super::state::{Committed, Receiving};
 use super::{Down, Place, asks};
 
 #[derive(Drop)]
@@ -17,7 +18,6 @@ impl Right {
         requires soon { Soon 1 (P.world w.old) }
         requires may { MayStop (P.world w.old) }
         ensures used { Used 1 (P.world w.old) (is_ok result) (P.world w.new) }
-        ensures steady { Steady (P.world w.old) (P.world w.new) }
         ensures does { Does (P.world w.old) (stopped (P.world w.old)) (is_ok result) (P.world w.new) }
         ensures line { OnOk result (Offline (P.world w.old) (P.world w.new)) }
         ensures right { IfOk result (λ x. x.attempt ≡ attempt) }
@@ -26,25 +26,24 @@ impl Right {
         Ok(Right { attempt })
     }
 
-    // The other host has refused the attempt that is committed here.
-    pub fn refused(attempt: u64) -> Right
-        ensures { result.attempt ≡ attempt }
+    // The other host has refused the attempt that is committed here: what says so is given up for the right.
+    pub fn refused(x: Committed) -> Right
+        ensures { result.attempt ≡ x.attempt }
     {
-        Right { attempt }
+        Right { attempt: x.attempt }
     }
 
-    // All pages of an attempt are put here, and it's committed.
-    pub fn received(attempt: u64) -> Right
-        ensures { result.attempt ≡ attempt }
+    // All pages of an attempt are put here, and it's committed: what says so is given up for the right.
+    pub fn received(x: Receiving) -> Right
+        ensures { result.attempt ≡ x.attempt }
     {
-        Right { attempt }
+        Right { attempt: x.attempt }
     }
 
     // The attempt is committed: from then on there is no right here.
     pub fn commit<P: Place>(self, w: &mut P) -> Result<(), Down>
         requires soon { Soon 1 (P.world w.old) }
         ensures used { Used 1 (P.world w.old) (is_ok result) (P.world w.new) }
-        ensures steady { Steady (P.world w.old) (P.world w.new) }
         ensures does { Does (P.world w.old) (kept 2 self.attempt (P.world w.old)) (is_ok result) (P.world w.new) }
         ensures line { OnOk result (Still (P.world w.old) (P.world w.new)) }
     {
@@ -56,7 +55,6 @@ impl Right {
         requires soon { Soon 1 (P.world w.old) }
         requires may { MayResume (P.world w.old) }
         ensures used { Used 1 (P.world w.old) (is_ok result) (P.world w.new) }
-        ensures steady { Steady (P.world w.old) (P.world w.new) }
         ensures does { Does (P.world w.old) (resumed self.attempt (P.world w.old)) (is_ok result) (P.world w.new) }
         ensures line { OnOk result (Still (P.world w.old) (P.world w.new)) }
     {

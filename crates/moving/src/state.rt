@@ -6,8 +6,8 @@ use window::Window;
 // An attempt to move the guest away, as far as it has come.
 // window: pages that were sent and aren't acknowledged. unsent: pages that were never sent in this attempt.
 // A pass looks at all pages in their order: cursor is the next; sent, how many it has sent; turns, how many turns it has had.
-// prev: the turns of the pass before, or NEVER.
-#[derive(Clone, Copy)]
+// prev: the turns of the pass before, if one came before.
+#[derive(Drop)]
 pub struct Transfer {
     pub attempt: u64,
     pub window: Window,
@@ -15,11 +15,12 @@ pub struct Transfer {
     pub cursor: u32,
     pub sent: u32,
     pub turns: u32,
-    pub prev: u32,
+    pub prev: Option<u32>,
 }
 
 // The pages of an attempt are put; next: the place of the next one.
-#[derive(Clone, Copy)]
+// It can't be copied, so that a right comes from it once.
+#[derive(Drop)]
 pub struct Receiving {
     pub attempt: u64,
     pub next: u64,
@@ -40,7 +41,8 @@ pub struct Paused {
 }
 
 // The attempt is committed; mine: this host hasn't fallen since, so that its pages are the guest's memory still.
-#[derive(Clone, Copy)]
+// It can't be copied either.
+#[derive(Drop)]
 pub struct Committed {
     pub attempt: u64,
     pub mine: bool,

@@ -1,7 +1,7 @@
 // How a turn begins and ends: a node that has just begun reads its cells, and one that was asked answers.
 ghost use Rattle.std.specs.Prelude.{◌≡◌, ℕ, ◌+◌, ◌-◌, ◌<◌, ◌≤◌, Bool, true, false, List, [], is_ok, IfOk, Some, None, OnOk};
 ghost use Rattle.moving.specs.Hosts.{me};
-ghost use Rattle.moving.specs.Used.{Soon, Used, Steady};
+ghost use Rattle.moving.specs.Used.{Soon, Used};
 ghost use Rattle.moving.specs.Calm.{Still, SentIf, reply_of};
 ghost use Rattle.moving.specs.Model.{Tidy, Rested, moving, woken, silent, answer_in};
 ghost use Rattle.moving.specs.Invariant.{Ready, Keeps};
@@ -54,13 +54,11 @@ impl Node {
         requires rested { Rested self.old }
         requires ready { Ready 0 [] self.old (P.world w.old) }
         ensures used { Used 3 (P.world w.old) (is_ok result) (P.world w.new) }
-        ensures steady { Steady (P.world w.old) (P.world w.new) }
         ensures rest { IfOk result (λ m. (253 ≤ m) × (m ≤ 256) × ((P.world w.old).left + m ≤ (P.world w.new).left + 256)) }
         ensures full { IfOk result (λ m. self.old.awake ≡ true → m ≡ 256) }
         ensures idle { IfOk result (λ m. m < 256 → moving self.new.state ≡ None) }
         ensures is { OnOk result (self.new ≡ woken ((me (P.world w.old)).cell 0) ((me (P.world w.old)).cell 1) ((me (P.world w.old)).cell 2) self.old) }
         ensures line { OnOk result (Still (P.world w.old) (P.world w.new)) }
-        ensures awake { OnOk result (self.new.awake ≡ true) }
         ensures tidy { OnOk result (Tidy self.new) }
         ensures keeps { Keeps 0 [] self.old (P.world w.old) result (λ _. self.new) (P.world w.new) }
     {
@@ -88,11 +86,9 @@ impl Node {
     // Who asked in this turn is answered.
     pub fn reply<P: Place>(&mut self, w: &mut P) -> Result<(), Down>
         requires soon { Soon 1 (P.world w.old) }
-        requires awake { self.old.awake ≡ true }
         requires tidy { Tidy self.old }
         requires ready { Ready 0 [] self.old (P.world w.old) }
         ensures used { Used 1 (P.world w.old) (is_ok result) (P.world w.new) }
-        ensures steady { Steady (P.world w.old) (P.world w.new) }
         ensures is { OnOk result (self.new ≡ silent self.old) }
         ensures line { OnOk result (SentIf (reply_of self.old) (P.world w.old) (P.world w.new)) }
         ensures keeps { Keeps 0 [] self.old (P.world w.old) result (λ _. self.new) (P.world w.new) }

@@ -1,33 +1,28 @@
 -- The pages in a window.
-use Rattle.std.specs.Prelude.{◌≡◌, ℕ, ◌+◌, ◌-◌, ◌^◌, ◌<◌, ◌≤◌, List, ◌++◌, map, length, take, drop, slice_index, slice_set}
-use Rattle.window.specs.declared.Flight.{Flight}
-use Rattle.window.specs.declared.Window.{Window}
+use Rattle.std.specs.Prelude.{ℕ, ◌+◌, ◌^◌, ◌<◌, ◌≤◌, List, [], ◌∷◌, ◌++◌, length, drop, slice_index}
 
 -- the most pages that a window holds
 abbrev pub most : ℕ
 most = 62
 
--- a window as the functions of this crate leave it: no longer than its array, and each place is a number of 64 bits
-pub record Sound (w : Window) : Type 0 where
-  pub array : length w.flights ≡ most
-  pub room : w.len ≤ most
-  pub places : w.base + w.len < 2 ^ 64
+-- what a window is to its callers: its pages, first to last, and the place of the first
+pub record Flying : Type 0 where
+  pub base : ℕ
+  pub pages : List ℕ
 
-abbrev pub page_of : Flight → ℕ
-page_of f = f.page
-
--- its pages, first to last
-unfoldable pub pages_of : Window → List ℕ
-pages_of w = map page_of (take w.len w.flights)
+-- each window is this: no more pages than fit, and each place is a number of 64 bits
+pub record Sound (w : Flying) : Type 0 where
+  pub room : length w.pages ≤ most
+  pub places : w.base + length w.pages < 2 ^ 64
 
 -- the page k places after the first
-abbrev pub slot : Window → ℕ → ℕ
-slot w k = slice_index (pages_of w) k
+abbrev pub slot : Flying → ℕ → ℕ
+slot w k = slice_index w.pages k
 
 -- with one page more at the end
-abbrev pub pushed : ℕ → Window → Window
-pushed p w = record { flights = slice_set w.flights w.len (record { page = p }); len = w.len + 1; base = w.base }
+abbrev pub pushed : ℕ → Flying → Flying
+pushed p w = record { base = w.base; pages = w.pages ++ p ∷ [] }
 
--- without the first k, whose flights are behind the others now
-abbrev pub dropped : ℕ → Window → Window
-dropped k w = record { flights = drop k w.flights ++ take k w.flights; len = w.len - k; base = w.base + k }
+-- without the first k
+abbrev pub dropped : ℕ → Flying → Flying
+dropped k w = record { base = w.base + k; pages = drop k w.pages }

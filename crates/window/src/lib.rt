@@ -2,36 +2,40 @@
 // Each page that is sent has the next place, 0, 1, 2, ..; a window holds the pages at the places base to base + len - 1.
 #![tactic(auto)]
 
-ghost use Rattle.std.specs.Prelude.{◌≡◌, ℕ, ◌+◌, ◌-◌, ◌^◌, ◌<◌, ◌≤◌, [], ◌∷◌, ◌++◌, length, drop, ◌==◌};
-ghost use Rattle.window.specs.Pages.{most, Sound, pages_of, slot, pushed, dropped};
+ghost use Rattle.std.specs.Prelude.{◌≡◌, ℕ, ◌+◌, ◌-◌, ◌^◌, ◌<◌, ◌≤◌, [], length, ◌==◌};
+ghost use Rattle.window.specs.Pages.{most, Sound, slot, pushed, dropped};
+
+use arrayvec::ArrayVec;
+use std::marker::Model;
 
 // The most pages that a window holds: `most` in the contracts.
 pub const CAPACITY: usize = 62;
 
-// A page on its way.
-#[derive(Clone, Copy)]
-pub struct Flight {
-    pub page: u32,
+#[derive(Drop)]
+pub struct Window {
+    pages: ArrayVec<u32, CAPACITY>,
+    base: u64,
 }
 
-#[derive(Clone, Copy)]
-pub struct Window {
-    flights: [Flight; CAPACITY],
-    len: u64,
-    base: u64,
+impl Model for Window {
+    ghost use Rattle.window.specs.Pages.{Flying, Sound};
+
+    ghost Value = { Flying };
+
+    ghost view = { λ w. record { base = w.base; pages = w.pages.items } };
+
+    ghost invariant = { λ w. Sound (record { base = w.base; pages = w.pages.items }) };
 }
 
 impl Window {
     // No page, at place 0.
     pub fn new() -> Window
-        ensures pages { pages_of result ≡ [] }
+        ensures pages { result.pages ≡ [] }
         ensures base { result.base ≡ 0 }
-        ensures len { result.len ≡ 0 }
         ensures sound { Sound result }
     {
         Window {
-            flights: [Flight { page: 0 }; CAPACITY],
-            len: 0,
+            pages: ArrayVec::new(),
             base: 0,
         }
     }
@@ -45,66 +49,55 @@ impl Window {
 
     // How many pages it holds.
     pub fn len(&self) -> u64
-        requires { Sound self.now }
-        ensures is { result ≡ self.now.len }
-        ensures pages { result ≡ length (pages_of self.now) }
+        ensures is { result ≡ length self.now.pages }
+        ensures sound { Sound self.now }
     {
-        self.len
+        self.pages.len() as u64
     }
 
     pub fn is_empty(&self) -> bool
-        ensures { result ≡ (self.now.len == 0) }
+        ensures is { result ≡ (length self.now.pages == 0) }
+        ensures sound { Sound self.now }
     {
-        self.len == 0
+        self.pages.is_empty()
     }
 
     pub fn is_full(&self) -> bool
-        ensures { result ≡ (self.now.len == most) }
+        ensures { result ≡ (length self.now.pages == most) }
     {
-        self.len == CAPACITY as u64
+        self.pages.is_full()
     }
 
     // One page more, at the end. Returns its place.
     pub fn push(&mut self, page: u32) -> u64
-        requires sound { Sound self.old }
-        requires room { self.old.len < most }
-        requires fits { self.old.base + self.old.len + 1 < 2 ^ 64 }
-        ensures place { result ≡ self.old.base + self.old.len }
+        requires room { length self.old.pages < most }
+        requires fits { self.old.base + length self.old.pages + 1 < 2 ^ 64 }
+        ensures place { result ≡ self.old.base + length self.old.pages }
         ensures is { self.new ≡ pushed page self.old }
-        ensures pages { pages_of self.new ≡ pages_of self.old ++ page ∷ [] }
-        ensures base { self.new.base ≡ self.old.base }
-        ensures len { self.new.len ≡ self.old.len + 1 }
         ensures sound { Sound self.new }
     {
-        let place = self.base + self.len;
-        self.flights[self.len as usize] = Flight { page };
-        self.len += 1;
+        let place = self.base + self.len();
+        self.pages.push(page);
         place
     }
 
     // The first k pages leave.
     pub fn drop_first(&mut self, k: u64)
-        requires sound { Sound self.old }
-        requires there { k ≤ self.old.len }
+        requires there { k ≤ length self.old.pages }
         ensures is { self.new ≡ dropped k self.old }
-        ensures pages { pages_of self.new ≡ drop k (pages_of self.old) }
-        ensures base { self.new.base ≡ self.old.base + k }
-        ensures len { self.new.len + k ≡ self.old.len }
         ensures sound { Sound self.new }
     {
-        self.flights.rotate_left(k as usize);
-        self.len -= k;
+        self.pages.drain(..k as usize);
         self.base += k;
     }
 
     // The page at a place of the window.
     pub fn page_at(&self, place: u64) -> u32
-        requires sound { Sound self.now }
         requires low { self.now.base ≤ place }
-        requires high { place < self.now.base + self.now.len }
+        requires high { place < self.now.base + length self.now.pages }
         ensures { result ≡ slot self.now (place - self.now.base) }
     {
-        self.flights[(place - self.base) as usize].page
+        self.pages[(place - self.base) as usize]
     }
 }
 

@@ -11,10 +11,8 @@ returns g c =
     let e : c.acked-self.result ≡ acked_in c.args.l.now.attempt c.args.l.now.place c.args.self.now.state = c.acked-self.ensures ∙ ap (acked_in c.args.l.now.attempt c.args.l.now.place) c.replace-state.ensures.value in
     record {
       used = search rules;
-      steady = search rules;
       is = ap (λ s. on_state s c.args.self.now) e;
       line = still_self _;
-      awake = c.requires.awake;
       tidy = ack_tidy c.args.self.now c.args.l.now c.acked-self.result e c.requires.tidy;
-      keeps = ends_ok 0 (omega arith) (read (then_so 0 (begin (spelt c.args.l.now ∷ []) c.args.self.now (g.P.Place.world c.args.w.now) c.requires.soon.up) (fine (λ i z o h. ack_whole c.args.l.now c.acked-self.result e c.requires.kind c.requires.tidy.windowed h))));
+      keeps = ends_ok 0 (omega arith) (read (then_so 0 (begin (spelt c.args.l.now ∷ []) c.args.self.now (g.P.Place.world c.args.w.now) c.requires.soon.up) (fine (λ i z o h. ack_whole c.args.l.now c.acked-self.result e c.requires.kind h))));
     }

@@ -14,12 +14,11 @@ returns-in_err-keep g c =
     record {
       line = unmade _ _ e;
       used = search rules;
-      steady = search rules;
       is = unmade _ _ e;
       new = unmade _ _ e;
       pass = unmade _ _ e;
       keeps = ends_err 2 2 _ c.from_residual.result e (omega arith) (begin [] n w c.requires.soon.up) c.in_err-keep.ensures.does
-          (λ i z o h. new_whole n c.new-transfer.result c.next_attempt-t.result c.pages.result c.requires.wanted c.requires.awake a.0 a.1.0 a.1.1 t.attempt t.window.1.0 t.window.1.1 c.pages.ensures t.unsent h);
+          (λ i z o h. new_whole n c.new-transfer.result c.next_attempt-t.result c.pages.result c.requires.wanted c.requires.tidy.awake a.0 a.1.0 a.1.1 t.attempt t.window.1.0 t.window.1.1 c.pages.ensures t.unsent h);
     }
 
 pub returns : goal.returns
@@ -31,10 +30,9 @@ returns g c =
     record {
       line = c.in_ok-keep.ensures.line;
       used = search rules;
-      steady = search rules;
       is = ap (λ a. on_top a n.state n) (sym t.attempt);
       new = (t.window.0, t.window.1.0, search rules);
       pass = record { above = search rules; least = search rules; own = search rules; empty = search rules; base = search rules; all = search rules; cursor = search rules; sent = search rules; turns = search rules; prev = search rules };
       keeps = ends_ok 2 (omega arith) (then_ok 2 (begin [] n w c.requires.soon.up) c.in_ok-keep.ensures.does refl
-          (λ i z o h. new_whole n c.new-transfer.result c.next_attempt-t.result c.pages.result c.requires.wanted c.requires.awake a.0 a.1.0 a.1.1 t.attempt t.window.1.0 t.window.1.1 c.pages.ensures t.unsent h));
+          (λ i z o h. new_whole n c.new-transfer.result c.next_attempt-t.result c.pages.result c.requires.wanted c.requires.tidy.awake a.0 a.1.0 a.1.1 t.attempt t.window.1.0 t.window.1.1 c.pages.ensures t.unsent h));
     }

@@ -14,9 +14,7 @@ returns-in_err-commit g c =
     record {
       line = unmade _ _ e;
       used = search rules;
-      steady = search rules;
       tidy = unmade _ _ e;
-      awake = unmade _ _ e;
       is = unmade _ _ e;
       keeps = ends_err 0 0 _ c.from_residual.result e (omega arith) (begin [] (on_state (Paused c.args.x) c.args.self.now) w c.requires.soon.up) c.in_err-commit.ensures.does (fine (λ i z o h. settle_whole c.args.self.now c.args.x c.requires.tidy.windowed.1 c.requires.none c.requires.all h));
     }
@@ -29,9 +27,7 @@ returns-in_err-tell g c =
     record {
       line = unmade _ _ e;
       used = search rules;
-      steady = search rules;
       tidy = unmade _ _ e;
-      awake = unmade _ _ e;
       is = unmade _ _ e;
       keeps = tells_err 0 z _ c.from_residual-in_err-tell.result e refl (then_ok 0 (begin [] (on_state (Paused c.args.x) c.args.self.now) w c.requires.soon.up) c.in_ok-commit.ensures.does refl (fine (λ i z o h. settle_whole c.args.self.now c.args.x c.requires.tidy.windowed.1 c.requires.none c.requires.all h))) c.in_err-tell.ensures.posts (omega arith);
     }
@@ -43,9 +39,7 @@ returns g c =
     record {
       line = still_added _ c.in_ok-commit.ensures.line c.in_ok-tell.ensures.line;
       used = search rules;
-      steady = search rules;
-      tidy = record { windowed = tt; asked = c.requires.tidy.asked };
-      awake = c.requires.awake;
+      tidy = record { awake = c.requires.tidy.awake; windowed = tt; asked = c.requires.tidy.asked };
       is = refl;
       keeps = ends_ok 0 (omega arith) (tells z refl (then_ok 0 (begin [] (on_state (Paused c.args.x) c.args.self.now) w c.requires.soon.up) c.in_ok-commit.ensures.does refl (fine (λ i z o h. settle_whole c.args.self.now c.args.x c.requires.tidy.windowed.1 c.requires.none c.requires.all h))) c.in_ok-tell.ensures.posts);
     }

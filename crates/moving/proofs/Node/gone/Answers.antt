@@ -11,9 +11,7 @@ returns-in_default g c =
     record {
       line = still_self _;
       used = search rules;
-      steady = search rules;
       is = gone_none_is c.args.self.now c.args.l.now.attempt c.in_default.not-Committed;
-      awake = c.requires.awake;
       tidy = c.requires.tidy;
       keeps = ends_ok 0 (omega arith) (read (begin (spelt c.args.l.now ∷ []) c.args.self.now (g.P.Place.world c.args.w.now) c.requires.soon.up));
     }
@@ -23,9 +21,7 @@ returns-then-x-l g c =
     record {
       line = still_self _;
       used = search rules;
-      steady = search rules;
       is = gone_is c.args.self.now c.args.l.now.attempt c.in-Committed.x c.in-Committed.is c.if-x-l.true;
-      awake = c.requires.awake;
       tidy = tidy_to c.args.self.now Away tt c.requires.tidy;
       keeps = ends_ok 0 (omega arith) (read (then_so 0 (begin (spelt c.args.l.now ∷ []) c.args.self.now (g.P.Place.world c.args.w.now) c.requires.soon.up) (fine (λ i z o h. gone_whole c.args.l.now c.in-Committed.x c.in-Committed.is c.if-x-l.true c.requires.kind h))));
     }
@@ -35,9 +31,7 @@ returns-else-x-l g c =
     record {
       line = still_self _;
       used = search rules;
-      steady = search rules;
       is = gone_other_is c.args.self.now c.args.l.now.attempt c.in-Committed.x c.in-Committed.is c.if-x-l.false;
-      awake = c.requires.awake;
       tidy = c.requires.tidy;
       keeps = ends_ok 0 (omega arith) (read (begin (spelt c.args.l.now ∷ []) c.args.self.now (g.P.Place.world c.args.w.now) c.requires.soon.up));
     }

@@ -1,4 +1,5 @@
-use Rattle.std.proofs.Common.{◌≡◌, [], None, refl, ap, ◌∙◌, arith, rules}
+use Rattle.std.proofs.Common.{◌≡◌, true, [], None, refl, ap, ◌∙◌, arith, rules}
+use borrow.Author.Tests.{both_ways}
 use mathlib.Core.Path.{subst⁻¹}
 use Rattle.moving.specs.declared.Node.{Node}
 use Rattle.moving.specs.Model.{moving, heeded}
@@ -15,9 +16,7 @@ returns-in_err-recv g c =
       line = unmade c.from_residual.result _ c.from_residual.ensures.0;
       none = unmade c.from_residual.result _ c.from_residual.ensures.0;
       used = search rules;
-      steady = search rules;
       one = unmade c.from_residual.result _ c.from_residual.ensures.0;
-      awake = unmade c.from_residual.result _ c.from_residual.ensures.0;
       tidy = unmade c.from_residual.result _ c.from_residual.ensures.0;
       idle = unmade c.from_residual.result _ c.from_residual.ensures.0;
       is = unmade c.from_residual.result _ c.from_residual.ensures.0;
@@ -30,9 +29,7 @@ returns-then-not-branch g c =
       line = heard_none_at (g.P.Place.world c.args.w.now).pages c.args.self.now c.in_ok-recv.ensures.line c.if-not-branch.true;
       none = λ z q. none_left_at c.in_ok-recv.ensures.line c.if-not-branch.true q;
       used = search rules;
-      steady = search rules;
       one = search rules;
-      awake = c.requires.awake;
       tidy = c.requires.tidy;
       idle = λ e. e;
       is = nothing refl;
@@ -43,11 +40,9 @@ pub returns-in_default : goal.returns-in_default
 returns-in_default g c =
     record {
       line = heard_unread_at (g.P.Place.world c.args.w.now).pages c.args.self.now c.in_ok-recv.ensures.line c.if-not-branch.false c.in_default.ensures;
-      none = λ z. absurd (omega arith);
+      none = λ z. absurd (both_ways true z refl);
       used = search rules;
-      steady = search rules;
       one = search rules;
-      awake = c.requires.awake;
       tidy = c.requires.tidy;
       idle = λ e. e;
       is = nothing refl;
@@ -58,7 +53,6 @@ pub heed-requires : goal.heed-requires
 heed-requires g c =
     record {
       soon = search rules;
-      awake = c.requires.awake;
       tidy = c.requires.tidy;
       ready = ready c.requires.ready (omega arith) (heard_letter c.in_ok-recv.field-0 c.recv.new.into c.in-Some.l c.if-not-branch.false c.recv.auto.into c.in-Some.ensures c.requires.soon.up c.in_ok-recv.ensures.gets);
     }
@@ -69,9 +63,7 @@ returns-in_err-heed g c =
       line = unmade c.from_residual-in_err-heed.result _ c.from_residual-in_err-heed.ensures.0;
       none = unmade c.from_residual-in_err-heed.result _ c.from_residual-in_err-heed.ensures.0;
       used = search rules;
-      steady = search rules;
       one = unmade c.from_residual-in_err-heed.result _ c.from_residual-in_err-heed.ensures.0;
-      awake = unmade c.from_residual-in_err-heed.result _ c.from_residual-in_err-heed.ensures.0;
       tidy = unmade c.from_residual-in_err-heed.result _ c.from_residual-in_err-heed.ensures.0;
       idle = unmade c.from_residual-in_err-heed.result _ c.from_residual-in_err-heed.ensures.0;
       is = unmade c.from_residual-in_err-heed.result _ c.from_residual-in_err-heed.ensures.0;
@@ -82,11 +74,9 @@ pub returns : goal.returns
 returns g c =
     record {
       line = heard_some_at (g.P.Place.world c.args.w.now).pages _ c.args.self.now _ c.in-Some.l c.in_ok-recv.ensures.line c.if-not-branch.false c.in_ok-heed.ensures.line c.in_ok-recv.ensures.used.pages c.in-Some.ensures c.in_ok-heed.ensures.is;
-      none = λ z. absurd (omega arith);
+      none = λ z. absurd (both_ways true z refl);
       used = search rules;
-      steady = search rules;
       one = search rules;
-      awake = c.in_ok-heed.ensures.awake;
       tidy = c.in_ok-heed.ensures.tidy;
       idle = λ e. subst⁻¹ (λ (n : Node). moving n.state ≡ None) c.in_ok-heed.ensures.is (still_none (g.P.Place.world c.recv.new.w).pages c.in-Some.l c.args.self.now e);
       is = letter c.in-Some.l refl (c.in_ok-heed.ensures.is ∙ ap (λ p. heeded p c.in-Some.l c.args.self.now) c.in_ok-recv.ensures.used.pages);

@@ -12,10 +12,8 @@ pub returns-in_default : goal.returns-in_default
 returns-in_default g c =
     record {
       used = search rules;
-      steady = search rules;
       is = page_none_is c.args.self.now (g.P.Place.world c.args.w.now).pages c.args.l.now c.in_default.not-Receiving;
       line = still_self _;
-      awake = c.requires.awake;
       tidy = c.requires.tidy;
       keeps = ends_ok 0 (omega arith) (read (begin (spelt c.args.l.now ∷ []) c.args.self.now (g.P.Place.world c.args.w.now) c.requires.soon.up));
     }
@@ -24,10 +22,8 @@ pub returns-then-not-next : goal.returns-then-not-next
 returns-then-not-next g c =
     record {
       used = search rules;
-      steady = search rules;
       is = page_other_is c.args.self.now (g.P.Place.world c.args.w.now).pages c.args.l.now c.in-Receiving.x c.pages.result c.in-Receiving.is c.pages.ensures c.if-not-next.true;
       line = still_self _;
-      awake = c.requires.awake;
       tidy = c.requires.tidy;
       keeps = ends_ok 0 (omega arith) (read (begin (spelt c.args.l.now ∷ []) c.args.self.now (g.P.Place.world c.args.w.now) c.requires.soon.up));
     }
@@ -36,10 +32,8 @@ pub returns-in_err-put : goal.returns-in_err-put
 returns-in_err-put g c =
     record {
       used = search rules;
-      steady = search rules;
       is = unmade c.from_residual.result _ c.from_residual.ensures.0;
       line = unmade c.from_residual.result _ c.from_residual.ensures.0;
-      awake = unmade c.from_residual.result _ c.from_residual.ensures.0;
       tidy = unmade c.from_residual.result _ c.from_residual.ensures.0;
       keeps = ends_err_own 0 _ c.from_residual.result c.from_residual.ensures.0 (put_at c.args.l.now.page _ (me (g.P.Place.world c.args.w.now))) (λ _ _. refl) (omega arith) (begin (spelt c.args.l.now ∷ []) c.args.self.now (g.P.Place.world c.args.w.now) c.requires.soon.up) c.in_err-put.ensures.does;
     }
@@ -55,10 +49,8 @@ returns g c =
     let t = page_test c.in-Receiving.x c.args.l.now c.pages.result c.if-not-next.false in
     record {
       used = search rules;
-      steady = search rules;
       is = page_is c.args.self.now (g.P.Place.world c.args.w.now).pages c.args.l.now c.in-Receiving.x c.pages.result c.in-Receiving.is c.pages.ensures c.if-not-next.false;
       line = c.in_ok-put.ensures.line;
-      awake = c.requires.awake;
       tidy = tidy_to c.args.self.now (Receiving _) tt c.requires.tidy;
       keeps = ends_ok 0 (omega arith) (read (then_ok 0 (begin (spelt c.args.l.now ∷ []) c.args.self.now (g.P.Place.world c.args.w.now) c.requires.soon.up) c.in_ok-put.ensures.does refl (fine (λ i z o h. page_whole c.args.l.now c.in-Receiving.x c.in-Receiving.is t.0 t.1 c.requires.kind h))));
     }

@@ -10,11 +10,9 @@ pub returns-then-not-t-self : goal.returns-then-not-t-self
 returns-then-not-t-self g c =
     record {
       used = search rules;
-      steady = search rules;
       is = probe_none_is c.args.self.now c.args.l.now.attempt c.may_begin.result c.may_begin.ensures c.if-not-t-self.true;
       line = still_self _;
-      awake = c.requires.awake;
-      tidy = probe_none_tidy c.args.l.now c.may_begin.result c.may_begin.ensures c.if-not-t-self.true c.requires.kind c.requires.awake c.requires.ready.whole c.requires.tidy;
+      tidy = probe_none_tidy c.args.l.now c.may_begin.result c.may_begin.ensures c.if-not-t-self.true c.requires.kind c.requires.ready.whole c.requires.tidy;
       keeps = ends_ok 0 (omega arith) (then_so 0 (read (begin (spelt c.args.l.now ∷ []) c.args.self.now (g.P.Place.world c.args.w.now) c.requires.soon.up)) (fine (λ i z o h. reask_whole c.args.l.now.attempt h)));
     }
 
@@ -23,12 +21,10 @@ pub returns-in_err-keep : goal.returns-in_err-keep
 returns-in_err-keep g c =
     record {
       used = search rules;
-      steady = search rules;
       is = unmade c.from_residual.result _ c.from_residual.ensures.0;
       line = unmade c.from_residual.result _ c.from_residual.ensures.0;
-      awake = unmade c.from_residual.result _ c.from_residual.ensures.0;
       tidy = unmade c.from_residual.result _ c.from_residual.ensures.0;
-      keeps = ends_err 0 0 _ c.from_residual.result c.from_residual.ensures.0 (omega arith) (begin (spelt c.args.l.now ∷ []) c.args.self.now (g.P.Place.world c.args.w.now) c.requires.soon.up) c.in_err-keep.ensures.does (fine (λ i z o h. probe_whole c.args.l.now c.may_begin.result c.if-not-t-self.false c.requires.kind c.requires.awake h));
+      keeps = ends_err 0 0 _ c.from_residual.result c.from_residual.ensures.0 (omega arith) (begin (spelt c.args.l.now ∷ []) c.args.self.now (g.P.Place.world c.args.w.now) c.requires.soon.up) c.in_err-keep.ensures.does (fine (λ i z o h. probe_whole c.args.l.now c.may_begin.result c.if-not-t-self.false c.requires.kind c.requires.tidy.awake h));
     }
 
 -- src/hearing.rt:42:5
@@ -36,10 +32,8 @@ pub returns : goal.returns
 returns g c =
     record {
       used = search rules;
-      steady = search rules;
       is = probe_is c.args.self.now c.args.l.now.attempt c.may_begin.result c.may_begin.ensures c.if-not-t-self.false;
       line = c.in_ok-keep.ensures.line;
-      awake = c.requires.awake;
-      tidy = probe_tidy c.args.l.now c.requires.kind c.requires.ready.whole;
-      keeps = ends_ok 0 (omega arith) (read (then_ok 0 (begin (spelt c.args.l.now ∷ []) c.args.self.now (g.P.Place.world c.args.w.now) c.requires.soon.up) c.in_ok-keep.ensures.does refl (fine (λ i z o h. probe_whole c.args.l.now c.may_begin.result c.if-not-t-self.false c.requires.kind c.requires.awake h))));
+      tidy = probe_tidy c.args.l.now c.requires.kind c.requires.tidy.awake c.requires.ready.whole;
+      keeps = ends_ok 0 (omega arith) (read (then_ok 0 (begin (spelt c.args.l.now ∷ []) c.args.self.now (g.P.Place.world c.args.w.now) c.requires.soon.up) c.in_ok-keep.ensures.does refl (fine (λ i z o h. probe_whole c.args.l.now c.may_begin.result c.if-not-t-self.false c.requires.kind c.requires.tidy.awake h))));
     }

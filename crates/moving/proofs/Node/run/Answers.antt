@@ -1,6 +1,4 @@
-use Rattle.std.proofs.Common.{◌≡◌, ◌-◌, [], sym, refl, ap, ◌∙◌, subst, arith, rules}
-use mathlib.Core.Path.{subst⁻¹}
-use Rattle.window.specs.Pages.{Sound}
+use Rattle.std.proofs.Common.{◌≡◌, ◌-◌, [], sym, refl, ap, ◌∙◌, subst, arith, rules, length}
 use Rattle.moving.specs.declared.Node.{Node}
 use Rattle.moving.specs.declared.state.Transfer.{Transfer}
 use Rattle.moving.specs.declared.state.State.TheVariants.{Running, Copying}
@@ -21,9 +19,7 @@ returns-in_err-wants g c =
     let e = c.from_residual.ensures.0 in
     record {
       used = search rules;
-      steady = search rules;
       tidy = unmade _ _ e;
-      awake = unmade _ _ e;
       is = unmade _ _ e;
       makes = unmade _ _ e;
       keeps = ends_call 64 _ c.from_residual.result e (begin [] (on_state (Running c.args.x) c.args.self.now) (g.P.Place.world c.args.w.now) c.requires.soon.up) c.in_err-wants.ensures.keeps (omega arith);
@@ -34,9 +30,7 @@ returns-then-not-branch g c =
     let q = c.in_ok-wants.ensures in
     record {
       used = search rules;
-      steady = search rules;
       tidy = ran_tidy c.args.self.now c.wants.new.self c.args.x c.in_ok-wants.field-0 q.is c.requires.tidy;
-      awake = ap (λ (n : Node). n.awake) q.is ∙ c.requires.awake;
       is = search rules;
       makes = search rules;
       keeps = ends_ok 64 (omega arith) (then_call (begin [] (on_state (Running c.args.x) c.args.self.now) (g.P.Place.world c.args.w.now) c.requires.soon.up) q.used.fell q.keeps);
@@ -47,7 +41,6 @@ attempt-requires g c =
     let q = c.in_ok-wants.ensures in
     record {
       soon = search rules;
-      awake = ap (λ (n : Node). n.awake) q.is ∙ c.requires.awake;
       tidy = ran_tidy c.args.self.now c.wants.new.self c.args.x c.in_ok-wants.field-0 q.is c.requires.tidy;
       ready = ways.ready c.requires.ready (omega arith) (then_call (begin [] (on_state (Running c.args.x) c.args.self.now) (g.P.Place.world c.args.w.now) c.requires.soon.up) q.used.fell q.keeps);
       wanted = ap (λ (n : Node). n.state) q.is ∙ ap (λ b. Running (record { wanted = b })) c.if-not-branch.false;
@@ -59,9 +52,7 @@ returns-in_err-attempt g c =
     let e = c.from_residual-in_err-attempt.ensures.0 in
     record {
       used = search rules;
-      steady = search rules;
       tidy = unmade _ _ e;
-      awake = unmade _ _ e;
       is = unmade _ _ e;
       makes = unmade _ _ e;
       keeps = ends_call 64 _ c.from_residual-in_err-attempt.result e (then_call (begin [] (on_state (Running c.args.x) c.args.self.now) (g.P.Place.world c.args.w.now) c.requires.soon.up) q.used.fell q.keeps) c.in_err-attempt.ensures.keeps (omega arith);
@@ -73,11 +64,10 @@ go_on-requires g c =
     let r = c.in_ok-attempt.ensures in
     let y = c.tick-transfer.result in
     let e : y ≡ ticked c.in_ok-attempt.field-0 = c.tick-transfer.ensures in
-    let l = ap (λ (d : Transfer). d.window.len) e ∙ r.new.1 in
+    let l = ap (λ (d : Transfer). length d.window.pages) e ∙ r.new.1 in
     record {
       soon = search rules;
       enough = omega arith;
-      sound = subst⁻¹ (λ (d : Transfer). Sound d.window) e r.new.0;
       ready = record {
         n = on_state (Copying y) c.attempt.new.self;
         has = refl;
@@ -94,9 +84,7 @@ returns-in_err-go_on g c =
     let e = c.from_residual-in_err-go_on.ensures.0 in
     record {
       used = search rules;
-      steady = search rules;
       tidy = unmade _ _ e;
-      awake = unmade _ _ e;
       is = unmade _ _ e;
       makes = unmade _ _ e;
       keeps = ends_call 64 _ c.from_residual-in_err-go_on.result e
@@ -113,9 +101,7 @@ returns g c =
     let k = still_then q.line r.line in
     record {
       used = search rules;
-      steady = search rules;
       tidy = run_tidy c.args.self.now c.wants.new.self c.attempt.new.self c.args.x c.in_ok-wants.field-0 c.in_ok-attempt.field-0.attempt c.go_on.new.self q.is r.is r.new.2 c.in_ok-go_on.ensures.sound c.requires.tidy;
-      awake = ap (λ (n : Node). n.awake) r.is ∙ ap (λ (n : Node). n.awake) q.is ∙ c.requires.awake;
       is = begins c.in_ok-attempt.field-0 (sym q.value ∙ c.if-not-branch.false) (record { above = p.above; least = p.least; own = p.own; empty = p.empty; base = p.base; all = p.all; cursor = p.cursor; sent = p.sent; turns = p.turns; prev = p.prev })
           (record { after = c.go_on.new.self; goes = subst (λ d. GoneOn (g.P.Place.world c.args.w.now).pages (c.args.most - 2) d c.go_on.new.self) c.tick-transfer.ensures (subst (λ p. GoneOn p (c.args.most - 2) y c.go_on.new.self) (r.used.pages ∙ q.used.pages) c.in_ok-go_on.ensures.is); node = ap (on_state (Copying c.go_on.new.self)) (r.is ∙ ap (λ (k : Node). on_top c.in_ok-attempt.field-0.attempt k.state k) q.is) });
       makes = Over.RunOver.begins c.in_ok-attempt.field-0 (sym q.value ∙ c.if-not-branch.false) (record { above = p.above; least = p.least; own = p.own; empty = p.empty; base = p.base; all = p.all; cursor = p.cursor; sent = p.sent; turns = p.turns; prev = p.prev })

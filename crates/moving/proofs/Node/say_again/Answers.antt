@@ -14,9 +14,7 @@ returns-in_err-tell g c =
     record {
       line = unmade _ _ e;
       used = search rules;
-      steady = search rules;
       tidy = unmade _ _ e;
-      awake = unmade _ _ e;
       is = unmade _ _ e;
       keeps = tells_err 0 z _ c.from_residual.result e refl (again_so c.args.self.now c.args.x c.saturating_add.result c.requires.soon.up) c.in_err-tell.ensures.posts (omega arith);
     }
@@ -27,9 +25,7 @@ returns g c =
     record {
       line = c.in_ok-tell.ensures.line;
       used = search rules;
-      steady = search rules;
-      tidy = record { windowed = tt; asked = c.requires.tidy.asked };
-      awake = c.requires.awake;
+      tidy = record { awake = c.requires.tidy.awake; windowed = tt; asked = c.requires.tidy.asked };
       is = ap (λ t. on_state (Committed (recommit c.args.x t)) c.args.self.now) c.saturating_add.ensures;
       keeps = ends_ok 0 (omega arith) (tells z refl (again_so c.args.self.now c.args.x c.saturating_add.result c.requires.soon.up) c.in_ok-tell.ensures.posts);
     }

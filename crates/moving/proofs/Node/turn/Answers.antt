@@ -16,13 +16,13 @@ use Rattle.moving.proofs.Node.turn.Goals as goal
 pub returns-in_err-left : goal.returns-in_err-left
 returns-in_err-left g c =
     let e = c.from_residual.ensures.0 in
-    record { only = search rules; rested = unmade _ _ e; is = unmade _ _ e; makes = unmade _ _ e; counts = fell_counts c.from_residual.result e (record { pages = c.in_err-left.ensures.used.pages; fall = c.in_err-left.ensures.used.fall; calm = c.in_err-left.ensures.steady.calm; still = c.in_err-left.ensures.steady.still }); keeps = ends_call 64 _ c.from_residual.result e (begin [] c.args.self.now (g.P.Place.world c.args.w.now) c.requires.up) c.in_err-left.ensures.keeps (omega arith) }
+    record { only = search rules; rested = unmade _ _ e; is = unmade _ _ e; makes = unmade _ _ e; counts = fell_counts c.from_residual.result e (record { pages = c.in_err-left.ensures.used.pages; fall = c.in_err-left.ensures.used.fall; calm = c.in_err-left.ensures.used.calm; still = c.in_err-left.ensures.used.still }); keeps = ends_call 64 _ c.from_residual.result e (begin [] c.args.self.now (g.P.Place.world c.args.w.now) c.requires.up) c.in_err-left.ensures.keeps (omega arith) }
 
 pub hear-requires : goal.hear-requires
 hear-requires g c =
     let k = c.in_ok-left.ensures in
     let s = then_call (begin [] c.args.self.now (g.P.Place.world c.args.w.now) c.requires.up) k.used.fell k.keeps in
-    record { soon = search rules; enough = search rules; awake = k.awake; tidy = k.tidy; ready = ready c.requires.ready (omega arith) s }
+    record { soon = search rules; enough = search rules; tidy = k.tidy; ready = ready c.requires.ready (omega arith) s }
 
 pub returns-in_err-left-2 : goal.returns-in_err-left-2
 returns-in_err-left-2 g c =
@@ -31,7 +31,7 @@ returns-in_err-left-2 g c =
     let k = c.in_ok-left.ensures in
     let s = then_call (begin [] n w c.requires.up) k.used.fell k.keeps in
     let e = c.from_residual-in_err-left-2.ensures.0 in
-    record { only = search rules; rested = unmade _ _ e; is = unmade _ _ e; makes = unmade _ _ e; counts = fell_counts c.from_residual-in_err-left-2.result e (record { pages = c.in_err-left-2.ensures.used.pages ∙ k.used.pages; fall = c.in_err-left-2.ensures.used.fall; calm = c.in_err-left-2.ensures.steady.calm ∙ k.steady.calm; still = c.in_err-left-2.ensures.steady.still ∙ k.steady.still }); keeps = ends_call 64 _ c.from_residual-in_err-left-2.result e s c.in_err-left-2.ensures.keeps (omega arith) }
+    record { only = search rules; rested = unmade _ _ e; is = unmade _ _ e; makes = unmade _ _ e; counts = fell_counts c.from_residual-in_err-left-2.result e (record { pages = c.in_err-left-2.ensures.used.pages ∙ k.used.pages; fall = c.in_err-left-2.ensures.used.fall; calm = c.in_err-left-2.ensures.used.calm ∙ k.used.calm; still = c.in_err-left-2.ensures.used.still ∙ k.used.still }); keeps = ends_call 64 _ c.from_residual-in_err-left-2.result e s c.in_err-left-2.ensures.keeps (omega arith) }
 
 pub act-requires : goal.act-requires
 act-requires g c =
@@ -48,7 +48,7 @@ act-requires g c =
       | inl lt ↦ inr (l.idle (k.idle lt), omega arith)
       | inr ge ↦ inl (omega arith)
     ] in
-    record { soon = search rules; awake = l.awake; tidy = l.tidy; ready = ready c.requires.ready (omega arith) t; enough = enough_for _ _ l.tidy.windowed some }
+    record { soon = search rules; tidy = l.tidy; ready = ready c.requires.ready (omega arith) t; enough = enough_for _ _ l.tidy.windowed some }
 
 pub returns-in_err-act : goal.returns-in_err-act
 returns-in_err-act g c =
@@ -59,7 +59,7 @@ returns-in_err-act g c =
     let l = c.in_ok-left-2.ensures in
     let t = then_call s l.used.fell l.keeps in
     let e = c.from_residual-in_err-act.ensures.0 in
-    record { only = search rules; rested = unmade _ _ e; is = unmade _ _ e; makes = unmade _ _ e; counts = fell_counts c.from_residual-in_err-act.result e (record { pages = c.in_err-act.ensures.used.pages ∙ l.used.pages ∙ k.used.pages; fall = c.in_err-act.ensures.used.fall; calm = c.in_err-act.ensures.steady.calm ∙ l.steady.calm ∙ k.steady.calm; still = c.in_err-act.ensures.steady.still ∙ l.steady.still ∙ k.steady.still }); keeps = ends_call 64 _ c.from_residual-in_err-act.result e t c.in_err-act.ensures.keeps (omega arith) }
+    record { only = search rules; rested = unmade _ _ e; is = unmade _ _ e; makes = unmade _ _ e; counts = fell_counts c.from_residual-in_err-act.result e (record { pages = c.in_err-act.ensures.used.pages ∙ l.used.pages ∙ k.used.pages; fall = c.in_err-act.ensures.used.fall; calm = c.in_err-act.ensures.used.calm ∙ l.used.calm ∙ k.used.calm; still = c.in_err-act.ensures.used.still ∙ l.used.still ∙ k.used.still }); keeps = ends_call 64 _ c.from_residual-in_err-act.result e t c.in_err-act.ensures.keeps (omega arith) }
 
 pub reply-requires : goal.reply-requires
 reply-requires g c =
@@ -71,7 +71,7 @@ reply-requires g c =
     let t = then_call s l.used.fell l.keeps in
     let a = c.in_ok-act.ensures in
     let u = then_call t a.used.fell a.keeps in
-    record { soon = search rules; awake = a.awake; tidy = a.tidy; ready = ready c.requires.ready (omega arith) u }
+    record { soon = search rules; tidy = a.tidy; ready = ready c.requires.ready (omega arith) u }
 
 pub returns-in_err-reply : goal.returns-in_err-reply
 returns-in_err-reply g c =
@@ -84,7 +84,7 @@ returns-in_err-reply g c =
     let a = c.in_ok-act.ensures in
     let u = then_call t a.used.fell a.keeps in
     let e = c.from_residual-in_err-reply.ensures.0 in
-    record { only = search rules; rested = unmade _ _ e; is = unmade _ _ e; makes = unmade _ _ e; counts = fell_counts c.from_residual-in_err-reply.result e (record { pages = c.in_err-reply.ensures.used.pages ∙ a.used.pages ∙ l.used.pages ∙ k.used.pages; fall = c.in_err-reply.ensures.used.fall; calm = c.in_err-reply.ensures.steady.calm ∙ a.steady.calm ∙ l.steady.calm ∙ k.steady.calm; still = c.in_err-reply.ensures.steady.still ∙ a.steady.still ∙ l.steady.still ∙ k.steady.still }); keeps = ends_call 64 _ c.from_residual-in_err-reply.result e u c.in_err-reply.ensures.keeps (omega arith) }
+    record { only = search rules; rested = unmade _ _ e; is = unmade _ _ e; makes = unmade _ _ e; counts = fell_counts c.from_residual-in_err-reply.result e (record { pages = c.in_err-reply.ensures.used.pages ∙ a.used.pages ∙ l.used.pages ∙ k.used.pages; fall = c.in_err-reply.ensures.used.fall; calm = c.in_err-reply.ensures.used.calm ∙ a.used.calm ∙ l.used.calm ∙ k.used.calm; still = c.in_err-reply.ensures.used.still ∙ a.used.still ∙ l.used.still ∙ k.used.still }); keeps = ends_call 64 _ c.from_residual-in_err-reply.result e u c.in_err-reply.ensures.keeps (omega arith) }
 
 pub returns : goal.returns
 returns g c =
@@ -102,7 +102,7 @@ returns g c =
     record {
       only = search rules;
       rested = record { windowed = subst (λ m. Windowed m.state) (sym y.is) a.tidy.windowed; silent = ap (λ m. m.asked) y.is };
-      counts = record { pages = y.used.pages ∙ a.used.pages ∙ l.used.pages ∙ k.used.pages; fall = refl; calm = y.steady.calm ∙ a.steady.calm ∙ l.steady.calm ∙ k.steady.calm; still = y.steady.still ∙ a.steady.still ∙ l.steady.still ∙ k.steady.still };
+      counts = record { pages = y.used.pages ∙ a.used.pages ∙ l.used.pages ∙ k.used.pages; fall = refl; calm = y.used.calm ∙ a.used.calm ∙ l.used.calm ∙ k.used.calm; still = y.used.still ∙ a.used.still ∙ l.used.still ∙ k.used.still };
       is = record {
         heard = c.hear.new.self;
         acted = c.act.new.self;
@@ -126,7 +126,7 @@ returns g c =
         acts = subst (λ p. ActedOver p (c.in_ok-left-2.left - 1) (me (g.P.Place.world c.hear.new.w)).told c.hear.new.self.state (on_state Away c.hear.new.self) (g.P.Place.world c.hear.new.w) c.act.new.self (g.P.Place.world c.act.new.w)) (l.used.pages ∙ k.used.pages) a.makes;
         replies = y.line;
         node = y.is;
-        awake = ap (λ m. m.awake) y.is ∙ a.awake;
+        awake = ap (λ m. m.awake) y.is ∙ a.tidy.awake;
         mid = λ i z o h. more_whole (omega arith) (t.whole i z o h);
       };
       keeps = ends_ok 64 (omega arith) (then_call u y.used.fell y.keeps);

@@ -14,13 +14,11 @@ returns-then-self g c =
     record {
       line = still_self _;
       used = search rules;
-      steady = search rules;
       full = λ a. refl;
       rest = search rules;
       idle = λ lt. absurd (omega arith);
       is = sym (cond-true n.awake n _ c.if-self.true);
-      awake = c.if-self.true;
-      tidy = record { windowed = c.requires.rested.windowed; asked = nobody_asks _ _ n.asked c.requires.rested.silent };
+      tidy = record { awake = c.if-self.true; windowed = c.requires.rested.windowed; asked = nobody_asks _ _ n.asked c.requires.rested.silent };
       keeps = ends_ok 0 (omega arith) (begin [] n (g.P.Place.world c.args.w.now) c.requires.soon.up);
     }
 
@@ -30,12 +28,10 @@ returns-in_err-took g c =
     record {
       line = unmade _ _ e;
       used = search rules;
-      steady = search rules;
       full = unmade _ _ e;
       rest = unmade _ _ e;
       idle = unmade _ _ e;
       is = unmade _ _ e;
-      awake = unmade _ _ e;
       tidy = unmade _ _ e;
       keeps = ends_err 0 0 _ c.from_residual.result e (omega arith) (begin [] c.args.self.now (g.P.Place.world c.args.w.now) c.requires.soon.up) c.in_err-took.ensures.does (fine (λ i z o h. h));
     }
@@ -46,12 +42,10 @@ returns-in_err-top g c =
     record {
       line = unmade _ _ e;
       used = search rules;
-      steady = search rules;
       full = unmade _ _ e;
       rest = unmade _ _ e;
       idle = unmade _ _ e;
       is = unmade _ _ e;
-      awake = unmade _ _ e;
       tidy = unmade _ _ e;
       keeps = ends_err 0 0 _ c.from_residual-in_err-top.result e (omega arith) (then_ok 0 (begin [] c.args.self.now (g.P.Place.world c.args.w.now) c.requires.soon.up) c.in_ok-took.ensures.does refl (fine (λ i z o h. h))) c.in_err-top.ensures.does (fine (λ i z o h. h));
     }
@@ -62,12 +56,10 @@ returns-in_err-committed g c =
     record {
       line = unmade _ _ e;
       used = search rules;
-      steady = search rules;
       full = unmade _ _ e;
       rest = unmade _ _ e;
       idle = unmade _ _ e;
       is = unmade _ _ e;
-      awake = unmade _ _ e;
       tidy = unmade _ _ e;
       keeps = ends_err 0 0 _ c.from_residual-in_err-committed.result e (omega arith) (then_ok 0 (then_ok 0 (begin [] c.args.self.now (g.P.Place.world c.args.w.now) c.requires.soon.up) c.in_ok-took.ensures.does refl (fine (λ i z o h. h))) c.in_ok-top.ensures.does refl (fine (λ i z o h. h))) c.in_err-committed.ensures.does (fine (λ i z o h. h));
     }
@@ -85,13 +77,11 @@ returns-then-not-committed-top g c =
     record {
       line = still_then (still_then c.in_ok-took.ensures.line c.in_ok-top.ensures.line) c.in_ok-committed.ensures.line;
       used = search rules;
-      steady = search rules;
       full = λ a. absurd (both_ways n.awake c.if-self.false a);
       rest = search rules;
       idle = λ _. ap moving asleep;
       is = woken_is n c.if-self.false took (top ∙ step_cell d0 1) (gone ∙ step_cell d1 2 ∙ step_cell d0 2) _ (sym (cond-false _ _ _ c.if-not-committed-top.true));
-      awake = refl;
-      tidy = record { windowed = c.requires.rested.windowed; asked = nobody_asks _ _ c.args.self.now.asked c.requires.rested.silent };
+      tidy = record { awake = refl; windowed = c.requires.rested.windowed; asked = nobody_asks _ _ c.args.self.now.asked c.requires.rested.silent };
       keeps = ends_ok 0 (omega arith) (then_ok 0 (then_ok 0 (then_ok 0 (begin [] n w c.requires.soon.up) d0 refl (fine (λ i z o h. h))) d1 refl (fine (λ i z o h. h))) c.in_ok-committed.ensures.does refl (fine (λ i z o h. wake_whole c.in_ok-took.took c.in_ok-top.top c.in_ok-committed.committed (took ∙ sym (step_cell d1 0 ∙ step_cell d0 0)) (top ∙ sym (step_cell d1 1)) gone h)));
     }
 
@@ -111,12 +101,10 @@ returns g c =
     record {
       line = still_then (still_then c.in_ok-took.ensures.line c.in_ok-top.ensures.line) c.in_ok-committed.ensures.line;
       used = search rules;
-      steady = search rules;
       full = λ a. absurd (both_ways n.awake c.if-self.false a);
       rest = search rules;
       idle = λ _. refl;
       is = woken_is n c.if-self.false took (top ∙ step_cell d0 1) (gone ∙ step_cell d1 2 ∙ step_cell d0 2) _ (sym (cond-true _ _ _ test));
-      awake = refl;
-      tidy = record { windowed = tt; asked = nobody_asks _ _ c.args.self.now.asked c.requires.rested.silent };
+      tidy = record { awake = refl; windowed = tt; asked = nobody_asks _ _ c.args.self.now.asked c.requires.rested.silent };
       keeps = ends_ok 0 (omega arith) (then_ok 0 (then_ok 0 (then_ok 0 (begin [] n w c.requires.soon.up) d0 refl (fine (λ i z o h. h))) d1 refl (fine (λ i z o h. h))) c.in_ok-committed.ensures.does refl (fine (λ i z o h. wake_committed_whole c.in_ok-took.took c.in_ok-top.top c.in_ok-committed.committed asleep (took ∙ sym (step_cell d1 0 ∙ step_cell d0 0)) (top ∙ sym (step_cell d1 1)) gone same some h)));
     }

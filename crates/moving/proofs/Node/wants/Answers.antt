@@ -13,7 +13,6 @@ returns-in_err-told g c =
     record {
       line = unmade _ _ e;
       used = search rules;
-      steady = search rules;
       is = unmade _ _ e;
       value = unmade _ _ e;
       keeps = ends_err 0 0 _ c.from_residual.result e (omega arith) (begin [] (on_state (Running c.args.x) c.args.self.now) w c.requires.soon.up) c.in_err-told.ensures.does (fine (λ i z o h. told_any c.args.self.now c.args.x (me w).told c.if-x.false refl h));
@@ -24,7 +23,6 @@ returns g c =
     record {
       line = c.in_ok-told.ensures.line;
       used = search rules;
-      steady = search rules;
       is = refl;
       value = search rules;
       keeps = ends_ok 0 (omega arith) (then_ok 0 (begin [] (on_state (Running c.args.x) c.args.self.now) (g.P.Place.world c.args.w.now) c.requires.soon.up) c.in_ok-told.ensures.does refl (fine (λ i z o h. told_any c.args.self.now c.args.x c.in_ok-told.told c.if-x.false c.in_ok-told.ensures.value h)));

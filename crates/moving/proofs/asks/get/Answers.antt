@@ -1,7 +1,7 @@
 use Rattle.std.proofs.Common.{refl}
 use Rattle.moving.proofs.Calms.{still_does, same_plain}
-use Rattle.moving.proofs.Uses.{does, answered, does_steady}
+use Rattle.moving.proofs.Uses.{does, itself, answered}
 use Rattle.moving.proofs.asks.get.Goals as goal
 
 pub returns : goal.returns
-returns g c = record { used = does c.get.ensures.0 c.requires.soon (record { left = refl; fell = refl; pages = refl }); steady = does_steady c.get.ensures.0 (record { calm = refl; still = refl }); does = c.get.ensures.0; value = answered c.get.result _ c.get.ensures.1; line = still_does c.get.result _ c.get.ensures.0 (same_plain (g.P.Place.world c.args.w.now)) (λ e. (e, refl)) }
+returns g c = record { used = does c.get.ensures.0 c.requires.soon itself; does = c.get.ensures.0; value = answered c.get.result _ c.get.ensures.1; line = still_does c.get.result _ c.get.ensures.0 (same_plain (g.P.Place.world c.args.w.now)) (λ e. (e, refl)) }

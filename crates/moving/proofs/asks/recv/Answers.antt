@@ -1,6 +1,6 @@
 use Rattle.moving.proofs.Calms.{pulled_gets}
-use Rattle.moving.proofs.Uses.{got, got_steady}
+use Rattle.moving.proofs.Uses.{got}
 use Rattle.moving.proofs.asks.recv.Goals as goal
 
 pub returns : goal.returns
-returns g c = record { used = got c.recv.ensures c.requires.soon; steady = got_steady c.recv.ensures; gets = c.recv.ensures; line = pulled_gets c.recv.ensures }
+returns g c = record { used = got c.recv.ensures c.requires.soon; gets = c.recv.ensures; line = pulled_gets c.recv.ensures }

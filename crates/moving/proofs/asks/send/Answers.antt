@@ -1,7 +1,7 @@
 use Rattle.std.proofs.Common.{is_ok, subst}
 use Rattle.moving.specs.Hosts.{Posts}
 use Rattle.moving.proofs.Calms.{added_posts}
-use Rattle.moving.proofs.Uses.{sent, sent_steady}
+use Rattle.moving.proofs.Uses.{sent}
 use Rattle.moving.proofs.asks.send.Goals as goal
 
 pub returns : goal.returns
@@ -9,7 +9,6 @@ returns g c =
     let sends = subst (λ l. Posts (g.P.Place.world c.args.w.now) l (is_ok c.send.result) (g.P.Place.world c.send.new.self)) c.write.ensures c.send.ensures in
     record {
       used = sent c.send.ensures c.requires.soon;
-      steady = sent_steady c.send.ensures;
       posts = sends;
       line = added_posts c.send.result _ c.args.l.now sends;
     }

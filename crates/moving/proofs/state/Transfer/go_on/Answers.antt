@@ -1,4 +1,4 @@
-use Rattle.std.proofs.Common.{◌-◌, sym, refl, ◌∙◌, subst, arith, rules, eqb-true}
+use Rattle.std.proofs.Common.{◌-◌, sym, refl, ◌∙◌, subst, arith, rules, eqb-true, length}
 use borrow.Author.Tests.{eqb-false}
 use Rattle.moving.specs.Calm.{Within}
 use Rattle.moving.specs.Scan.{Scanned}
@@ -11,13 +11,13 @@ use Rattle.moving.proofs.state.Transfer.go_on.Goals as goal
 pub returns-in_err-tell : goal.returns-in_err-tell
 returns-in_err-tell g c =
     let e = c.from_residual.ensures.0 in
-    record { within = unmade _ _ e; line = unmade _ _ e; used = search rules; steady = search rules; is = unmade _ _ e; sound = unmade _ _ e; keeps = probes_err c.args.self.now c.args.self.now c.from_residual.result e c.requires.soon.up c.in_err-tell.ensures.posts }
+    record { within = unmade _ _ e; line = unmade _ _ e; used = search rules; is = unmade _ _ e; sound = unmade _ _ e; keeps = probes_err c.args.self.now c.args.self.now c.from_residual.result e c.requires.soon.up c.in_err-tell.ensures.posts }
 
 pub resend-requires : goal.resend-requires
 resend-requires g c =
     let x = c.args.self.now in
     let r = c.requires.ready in
-    record { soon = search rules; sound = c.requires.sound; ready = record { n = r.n; has = r.has; ready = ways.ready r.ready (omega arith) (probes x r.n r.has c.requires.soon.up c.in_ok-tell.ensures.posts) } }
+    record { soon = search rules; ready = record { n = r.n; has = r.has; ready = ways.ready r.ready (omega arith) (probes x r.n r.has c.requires.soon.up c.in_ok-tell.ensures.posts) } }
 
 pub returns-in_err-resend : goal.returns-in_err-resend
 returns-in_err-resend g c =
@@ -27,7 +27,6 @@ returns-in_err-resend g c =
       within = unmade _ _ e;
       line = unmade _ _ e;
       used = search rules;
-      steady = search rules;
       is = unmade _ _ e;
       sound = unmade _ _ e;
       keeps = λ n has. ends_call 62 _ c.from_residual-in_err-resend.result e (probes x n has c.requires.soon.up c.in_ok-tell.ensures.posts) (c.in_err-resend.ensures.keeps n has) (omega arith);
@@ -36,14 +35,13 @@ returns-in_err-resend g c =
 pub returns-then-not-is_empty : goal.returns-then-not-is_empty
 returns-then-not-is_empty g c =
     let x = c.args.self.now in
-    let ne = eqb-false x.window.len 0 (sym c.is_empty.ensures ∙ c.if-not-is_empty.true) in
+    let ne = eqb-false (length x.window.pages) 0 (sym c.is_empty.ensures.is ∙ c.if-not-is_empty.true) in
     record {
       within = λ h. h;
       line = went_on c.in_ok-tell.ensures.line c.in_ok-tell.ensures.used.pages c.in_ok-resend.ensures.line c.in_ok-resend.ensures.asked;
       used = search rules;
-      steady = search rules;
       is = record { same = λ _. refl; goes = λ e. absurd (ne e) };
-      sound = c.requires.sound;
+      sound = c.is_empty.ensures.sound;
       keeps = λ n has. ends_ok 62 (omega arith) (then_call (probes x n has c.requires.soon.up c.in_ok-tell.ensures.posts) c.in_ok-resend.ensures.used.fell (c.in_ok-resend.ensures.keeps n has));
     }
 
@@ -53,8 +51,7 @@ scan-requires g c =
     let r = c.requires.ready in
     record {
       soon = search rules;
-      sound = c.requires.sound;
-      none = eqb-true x.window.len 0 (sym c.is_empty.ensures ∙ c.if-not-is_empty.false);
+      none = eqb-true (length x.window.pages) 0 (sym c.is_empty.ensures.is ∙ c.if-not-is_empty.false);
       ready = record { n = r.n; has = r.has; ready = ways.ready r.ready (omega arith) (probes x r.n r.has c.requires.soon.up c.in_ok-tell.ensures.posts) };
     }
 
@@ -66,7 +63,6 @@ returns-in_err-scan g c =
       within = unmade _ _ e;
       line = unmade _ _ e;
       used = search rules;
-      steady = search rules;
       is = unmade _ _ e;
       sound = unmade _ _ e;
       keeps = λ n has. ends_call 62 _ c.from_residual-in_err-scan.result e (probes x n has c.requires.soon.up c.in_ok-tell.ensures.posts) (c.in_err-scan.ensures.keeps n has) (omega arith);
@@ -75,12 +71,11 @@ returns-in_err-scan g c =
 pub returns : goal.returns
 returns g c =
     let x = c.args.self.now in
-    let z = eqb-true x.window.len 0 (sym c.is_empty.ensures ∙ c.if-not-is_empty.false) in
+    let z = eqb-true (length x.window.pages) 0 (sym c.is_empty.ensures.is ∙ c.if-not-is_empty.false) in
     record {
       within = subst (λ p. Within p x c.scan.new.self) c.in_ok-tell.ensures.used.pages c.in_ok-scan.ensures.within;
       line = went_on c.in_ok-tell.ensures.line c.in_ok-tell.ensures.used.pages c.in_ok-scan.ensures.line (λ a. c.in_ok-scan.ensures.asked (asked_none x _ z a));
       used = search rules;
-      steady = search rules;
       is = record { same = λ lt. absurd (omega arith); goes = λ _. subst (λ p. Scanned p (c.args.most - 1) x c.scan.new.self) c.in_ok-tell.ensures.used.pages c.in_ok-scan.ensures.is };
       sound = c.in_ok-scan.ensures.sound;
       keeps = λ n has. ends_ok 62 (omega arith) (then_call (probes x n has c.requires.soon.up c.in_ok-tell.ensures.posts) c.in_ok-scan.ensures.used.fell (c.in_ok-scan.ensures.keeps n has));
