@@ -19,9 +19,9 @@ abbrev pub kind_of : ℕ → Option Kind
 kind_of n =
     cond (n == 1) (Some Probe) (cond (n == 2) (Some Page) (cond (n == 3) (Some Commit) (cond (n == 4) (Some Ack) (cond (n == 5) (Some Refuse) (cond (n == 6) (Some Taken) None)))))
 
--- what a number gives: the kind that has it, or none
-abbrev pub Numbers : ℕ → Result Kind NoKind → Type 0
-Numbers n r = MatchResult r (λ kind. kind_of n ≡ Some kind) (λ e. (e.0 ≡ n) × (kind_of n ≡ None))
+-- what a number names: the kind that has it, or none
+abbrev pub Names : ℕ → Result Kind NoKind → Type 0
+Names n r = MatchResult r (λ kind. kind_of n ≡ Some kind) (λ e. (e.0 ≡ n) × (kind_of n ≡ None))
 
 -- the first eight words of a letter
 abbrev pub head : Kind → (attempt place page : ℕ) → List ℕ

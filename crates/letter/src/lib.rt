@@ -2,7 +2,7 @@
 #![tactic(auto)]
 
 ghost use Rattle.std.specs.Prelude.{◌≡◌, ℕ};
-ghost use Rattle.letter.specs.Words.{number, Numbers, letter_of, spelt};
+ghost use Rattle.letter.specs.Words.{number, Names, letter_of, spelt};
 ghost use Rattle.letter.specs.Laws.{ReadsWhatWasWritten, WritesWhatWasRead};
 
 // Probe, Page and Commit come from the host that moves the guest away; Ack, Refuse and Taken from the one that gets it.
@@ -24,7 +24,7 @@ pub struct NoKind(pub u64);
 impl TryFrom<u64> for Kind {
     type Error = NoKind;
 
-    ghost try_from_gives = { Numbers };
+    ghost try_from_gives = { Names };
 
     fn try_from(number: u64) -> Result<Kind, NoKind> {
         match number {
