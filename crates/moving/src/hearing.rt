@@ -307,7 +307,6 @@ impl Transfer {
 
     // The other host has put all places of the attempt t below s.
     fn acked(mut self, t: u64, s: u64) -> Transfer
-        requires { Sound self.window }
         ensures { result ≡ acked t s self }
     {
         let base = self.window.base();
