@@ -1,6 +1,6 @@
 -- What a letter makes of a node: all stays whole, and what holds of the node alone.
 -- Assumes nothing.
-use Rattle.std.proofs.Common.{◌≡◌, ℕ, ◌+◌, ◌-◌, ◌%◌, ◌<◌, ◌≤◌, Bool, true, false, cond, ◌&&◌, eqb, ltb, leb, List, [], ◌∷◌, ◌++◌, length, is_ok, is_err, Some, None, Ok, Err, Result, sym, refl, ap, ◌∙◌, subst, subst₂, inl, inr, arith, ltb-false, ltb-true, eq-eqb, ne_eqb, eqb-true, leb-true}
+use Rattle.std.proofs.Common.{◌≡◌, ℕ, ◌+◌, ◌-◌, ◌%◌, ◌<◌, ◌≤◌, Bool, true, false, cond, ◌&&◌, eqb, ltb, leb, List, [], ◌∷◌, ◌++◌, length, is_ok, is_err, Some, None, Ok, Err, Result, sym, refl, ap, ◌∙◌, subst, subst₂, inl, inr, arith, ltb-true, eq-eqb, ne_eqb, eqb-true, leb-true}
 use Rattle.std.proofs.lemmas.List.{length-drop, get_or-drop}
 use mathlib.Core.Path.{subst⁻¹}
 use mathlib.Core.List.Memᴰ
@@ -80,22 +80,19 @@ probe_own l k h =
     (f.own ∙ ap (λ z. 1 - z) (sym h.both.ours.me), f.some)
 
 -- what isn't begun is no news
-probe_top : {i m : ℕ} {n o : Node} {w : World} (l : Letter) → l.kind ≡ Probe → n.awake ≡ true → Whole i m (spelt l ∷ []) n o w → (ltb n.top l.attempt && begins n.state) ≡ false → l.attempt ≤ n.top
-probe_top {n = n} {w = w} l k aw h e = go (ltb n.top l.attempt) refl e
+probe_top : {i m : ℕ} {n o : Node} {w : World} (l : Letter) → l.kind ≡ Probe → n.awake ≡ true → Whole i m (spelt l ∷ []) n o w → (begins n.state ≡ true → l.attempt ≤ n.top) → l.attempt ≤ n.top
+probe_top {n = n} {w = w} l k aw h e = go (begins n.state) refl
   where
-    go : (b : Bool) → ltb n.top l.attempt ≡ b → (b && begins n.state) ≡ false → l.attempt ≤ n.top
-    go true q f =
+    go : (b : Bool) → begins n.state ≡ b → l.attempt ≤ n.top
+    go true q = e q
+    go false q =
         let a = ((legit l h).probe (ap number k)).begun in
-        let b = h.both.ours.order.later (has_it h.both.ours f) in
+        let b = h.both.ours.order.later (has_it h.both.ours q) in
         let t = (h.both.ours.cells.copies aw).1 in
         omega arith
-    go false q f = ltb-false n.top l.attempt q
 
-pub probe_none_tidy : {i m : ℕ} {n o : Node} {w : World} (l : Letter) (b : Bool) → b ≡ begins n.state → (ltb n.top l.attempt && b) ≡ false → l.kind ≡ Probe → Whole i m (spelt l ∷ []) n o w → Tidy n → Tidy (asked_for l.attempt n)
-probe_none_tidy {n = n} l b q e k h t =
-    let f : (ltb n.top l.attempt && begins n.state) ≡ false = subst (λ b. (ltb n.top l.attempt && b) ≡ false) q e in
-    let w = probe_own l k h in
-    asked_tidy n l.attempt t.awake t.windowed w.0 w.1 (probe_top l k t.awake h f)
+pub probe_none_tidy : {i m : ℕ} {n o : Node} {w : World} (l : Letter) → (begins n.state ≡ true → l.attempt ≤ n.top) → l.kind ≡ Probe → Whole i m (spelt l ∷ []) n o w → Tidy n → Tidy (asked_for l.attempt n)
+probe_none_tidy {n = n} l e k h t = let w = probe_own l k h in asked_tidy n l.attempt t.awake t.windowed w.0 w.1 (probe_top l k t.awake h e)
 
 pub probe_none_is : (n : Node) (t : ℕ) (b : Bool) → b ≡ begins n.state → (ltb n.top t && b) ≡ false → asked_for t n ≡ probed t n
 probe_none_is n t b q e =
@@ -110,10 +107,9 @@ probe_tidy {n = n} l k aw h =
     let w = probe_own l k h in
     asked_tidy (on_top l.attempt (Receiving (record { attempt = l.attempt; next = 0 })) n) l.attempt aw tt w.0 w.1 (omega arith)
 
-pub probe_whole : {i m : ℕ} {n o : Node} {w : World} (l : Letter) (b : Bool) → (ltb n.top l.attempt && b) ≡ true → l.kind ≡ Probe → n.awake ≡ true → Whole i m (spelt l ∷ []) n o w → Whole i m (spelt l ∷ []) (asked_for l.attempt (on_top l.attempt (Receiving (record { attempt = l.attempt; next = 0 })) n)) o (kept 1 l.attempt w)
-probe_whole {n = n} l b e k aw h =
+pub probe_whole : {i m : ℕ} {n o : Node} {w : World} (l : Letter) → n.top < l.attempt → l.kind ≡ Probe → n.awake ≡ true → Whole i m (spelt l ∷ []) n o w → Whole i m (spelt l ∷ []) (asked_for l.attempt (on_top l.attempt (Receiving (record { attempt = l.attempt; next = 0 })) n)) o (kept 1 l.attempt w)
+probe_whole {n = n} l g k aw h =
     let t = (h.both.ours.cells.copies aw).1 in
-    let g = ltb-true n.top l.attempt (and_parts (ltb n.top l.attempt) b e).0 in
     begin_whole (spelt l) (inl (Memᴰ.head refl)) (ap number k) (omega arith) aw (reask_whole l.attempt h)
 
 -- PAGE

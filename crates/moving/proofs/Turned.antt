@@ -1,7 +1,7 @@
 -- How a turn begins and ends.
 -- Assumes nothing.
-use Rattle.std.proofs.Common.{◌≡◌, ℕ, ◌-◌, ◌%◌, ◌<◌, ◌≤◌, Bool, true, false, cond, ◌&&◌, eqb, ltb, leb, ◌⊎◌, List, [], Some, None, Option, sym, refl, ap, ◌∙◌, subst, inl, inr, arith, eqb-true}
-use borrow.Author.Tests.{both_ways, eqb-false}
+use Rattle.std.proofs.Common.{◌≡◌, ℕ, ◌-◌, ◌%◌, ◌<◌, ◌≤◌, Bool, true, false, cond, ◌&&◌, eqb, ltb, leb, ◌⊎◌, List, [], Some, None, Option, sym, refl, ap, ◌∙◌, subst, inl, inr, arith, eqb-true, eq-eqb, ne_eqb, lt-ltb, le-ltb}
+use borrow.Author.Tests.{eqb-false}
 use Rattle.std.proofs.lemmas.Bool.{leb-true, leb-false}
 use Rattle.letter.specs.declared.Kind.TheVariants.{Ack, Refuse, Taken}
 use Rattle.letter.specs.Words.{spelt}
@@ -102,13 +102,20 @@ answer_legit {m = m} {n = n} {o = o} {w = w} t a aw own le e h = go n.state refl
         by true q z = subst (λ c. Legit m (spelt (bare c.kind t c.place)) o n (flip (seen w))) z (ack_legit (spelt (bare Ack t x.next)) x f refl (sym (eqb-true x.attempt t q)) refl h.both)
         by false q z = or_not a (λ r y p. eqb-false x.attempt t q (ap (λ (c : Reception). c.attempt) (receiving_same (sym f ∙ y)) ∙ p)) z
 
-pub and_first : (a b : Bool) → (a && b) ≡ true → a ≡ true
-and_first true b e = refl
-and_first false b e = e
+-- Its highest attempt is its own and committed, or one of the three tests fails.
+pub own_commit : {a b m : ℕ} → a ≡ b → 0 < b → b % 2 ≡ m → ((eqb a b && ltb 0 b) && eqb (b % 2) m) ≡ true
+own_commit {a = a} {b = b} {m = m} e l f = rw (eq-eqb a b e, lt-ltb 0 b l, eq-eqb (b % 2) m f)
 
-pub and_second : (a b : Bool) → (a && b) ≡ true → b ≡ true
-and_second true b e = e
-and_second false b e = absurd (both_ways false refl e)
+pub not_alike : {a b : ℕ} (k l : Bool) → (a ≡ b → ⊥) → ((eqb a b && k) && l) ≡ false
+not_alike {a = a} {b = b} k l f = rw (ne_eqb a b f)
+
+pub not_some : {b : ℕ} (k l : Bool) → b ≤ 0 → ((k && ltb 0 b) && l) ≡ false
+not_some {b = b} true l f = rw (le-ltb 0 b f)
+not_some false l f = refl
+
+pub not_own : {a b : ℕ} (k : Bool) → (a ≡ b → ⊥) → (k && eqb a b) ≡ false
+not_own {a = a} {b = b} true f = ne_eqb a b f
+not_own false f = refl
 
 -- what a node remembers that has read its cells
 pub woken_is : (n : Node) {a b c x y z : ℕ} → n.awake ≡ false → a ≡ x → b ≡ y → c ≡ z → (s : State) → s ≡ cond ((eqb c b && ltb 0 b) && eqb (b % 2) n.me) (Committed (record { attempt = b; mine = false; turns = 0 })) n.state →

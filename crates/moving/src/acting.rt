@@ -179,13 +179,8 @@ impl Node {
         ensures makes { OnOk result (CopiesOver (P.world w.old).pages (most - 1) (ticked (afresh x.transfer)) (took_for x.transfer.attempt (on_state State.Away self.old)) (P.world w.old) self.new (P.world w.new)) }
         ensures keeps { Keeps 62 [] (on_state (State.Paused x) self.old) (P.world w.old) result (λ _. self.new) (P.world w.new) }
     {
-        let Paused {
-            transfer,
-            right,
-            turns: _,
-        } = x;
-        let mut y = transfer.new_pass(None).tick();
-        right.resume(w)?;
+        let mut y = x.transfer.new_pass(None).tick();
+        x.right.resume(w)?;
         self.took = y.attempt;
         y.go_on(w, most - 1)?;
         self.state = State::Copying(y);
@@ -210,17 +205,12 @@ impl Node {
         if x.turns >= LONG_PAUSE {
             return self.give_up(w, x, most);
         }
-        let Paused {
-            transfer,
-            right,
-            turns,
-        } = x;
-        let mut y = transfer.tick();
+        let mut y = x.transfer.tick();
         y.go_on(w, most)?;
         self.state = State::Paused(Paused {
             transfer: y,
-            right,
-            turns: turns + 1,
+            right: x.right,
+            turns: x.turns + 1,
         });
         Ok(())
     }
@@ -237,9 +227,8 @@ impl Node {
         ensures keeps { Keeps 0 [] (on_state (State.Committed x) self.old) (P.world w.old) result (λ _. self.new) (P.world w.new) }
     {
         self.state = State::Committed(Committed {
-            attempt: x.attempt,
-            mine: x.mine,
             turns: x.turns.saturating_add(1),
+            ..x
         });
         asks::tell(w, Kind::Commit, x.attempt, 0)?;
         Ok(())

@@ -40,15 +40,14 @@ impl Node {
     {
         let t = l.attempt;
         self.asked = Some(t);
-        if !((t > self.top) & self.state.may_begin()) {
-            return Ok(());
+        if t > self.top && self.state.may_begin() {
+            asks::keep(w, 1, t)?;
+            self.top = t;
+            self.state = State::Receiving(Receiving {
+                attempt: t,
+                next: 0,
+            });
         }
-        asks::keep(w, 1, t)?;
-        self.top = t;
-        self.state = State::Receiving(Receiving {
-            attempt: t,
-            next: 0,
-        });
         Ok(())
     }
 
@@ -67,15 +66,13 @@ impl Node {
         let State::Receiving(x) = &self.state else {
             return Ok(());
         };
-        let next = (x.attempt == l.attempt) & (x.next == l.place) & (l.page < w.pages());
-        if !next {
-            return Ok(());
+        if x.attempt == l.attempt && x.next == l.place && l.page < w.pages() {
+            asks::put(w, l.page, &l.words)?;
+            self.state = State::Receiving(Receiving {
+                attempt: l.attempt,
+                next: l.place + 1,
+            });
         }
-        asks::put(w, l.page, &l.words)?;
-        self.state = State::Receiving(Receiving {
-            attempt: l.attempt,
-            next: l.place + 1,
-        });
         Ok(())
     }
 
@@ -309,17 +306,15 @@ impl Transfer {
     }
 
     // The other host has put all places of the attempt t below s.
-    fn acked(self, t: u64, s: u64) -> Transfer
+    fn acked(mut self, t: u64, s: u64) -> Transfer
         ensures { result ≡ acked t s self }
     {
         let base = self.window.base();
         let len = self.window.len();
-        if !((self.attempt == t) & (base < s) & (s <= base + len)) {
-            return self;
+        if self.attempt == t && base < s && s <= base + len {
+            self.window.drop_first(s - base);
         }
-        let mut c = self;
-        c.window.drop_first(s - base);
-        c
+        self
     }
 }
 
@@ -329,18 +324,10 @@ impl State {
     {
         match self {
             State::Copying(x) => State::Copying(x.acked(t, s)),
-            State::Paused(x) => {
-                let Paused {
-                    transfer,
-                    right,
-                    turns,
-                } = x;
-                State::Paused(Paused {
-                    transfer: transfer.acked(t, s),
-                    right,
-                    turns,
-                })
-            }
+            State::Paused(x) => State::Paused(Paused {
+                transfer: x.transfer.acked(t, s),
+                ..x
+            }),
             other => other,
         }
     }

@@ -11,7 +11,7 @@ ghost use Rattle.moving.specs.Used.{Counts};
 ghost use Rattle.moving.specs.Over.{TurnedOver};
 
 // The host has fallen: nothing that it knows is left but its cells.
-#[derive(Clone, Copy)]
+#[derive(Clone, Copy, Debug, PartialEq, Eq)]
 pub struct Down;
 
 // What a host may ask, for itself; it may fall over each. A guest that runs goes on writing meanwhile.

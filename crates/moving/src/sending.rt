@@ -41,7 +41,7 @@ impl Transfer {
     pub fn is_over(&self, pages: u32) -> bool
         ensures { result ≡ over pages self.now }
     {
-        self.window.is_empty() & (self.cursor == pages)
+        self.window.is_empty() && self.cursor == pages
     }
 
     // A turn more of this pass.

@@ -20,14 +20,14 @@ pub struct Transfer {
 
 // The pages of an attempt are put; next: the place of the next one.
 // It can't be copied, so that a right comes from it once.
-#[derive(Drop)]
+#[derive(Drop, Debug, PartialEq, Eq)]
 pub struct Receiving {
     pub attempt: u64,
     pub next: u64,
 }
 
 // The guest runs here; wanted: this host knows that it's to be moved.
-#[derive(Clone, Copy)]
+#[derive(Clone, Copy, Debug, PartialEq, Eq)]
 pub struct Running {
     pub wanted: bool,
 }
@@ -42,7 +42,7 @@ pub struct Paused {
 
 // The attempt is committed; mine: this host hasn't fallen since, so that its pages are the guest's memory still.
 // It can't be copied either.
-#[derive(Drop)]
+#[derive(Drop, Debug, PartialEq, Eq)]
 pub struct Committed {
     pub attempt: u64,
     pub mine: bool,

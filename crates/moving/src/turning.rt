@@ -72,14 +72,13 @@ impl Node {
         self.took = took;
         self.top = top;
         self.committed = committed;
-        if !((committed == top) & (top > 0) & (top % 2 == self.me)) {
-            return Ok(253);
+        if committed == top && top > 0 && top % 2 == self.me {
+            self.state = State::Committed(Committed {
+                attempt: top,
+                mine: false,
+                turns: 0,
+            });
         }
-        self.state = State::Committed(Committed {
-            attempt: top,
-            mine: false,
-            turns: 0,
-        });
         Ok(253)
     }
 
