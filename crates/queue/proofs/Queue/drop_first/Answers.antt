@@ -1,10 +1,10 @@
-use Rattle.std.proofs.Common.{◌<◌, length, refl, arith, rules}
+use Rattle.std.proofs.Common.{◌<◌, length, arith, rules}
 use Rattle.queue.specs.Queues.{letters_of}
 use Rattle.queue.proofs.Rows.{row_length, none_rest, row_rest}
 use Rattle.queue.proofs.Queue.drop_first.Goals as goal
 
-pub returns-then-len-eq0 : goal.returns-then-len-eq0
-returns-then-len-eq0 c = record { rest = none_rest (letters_of c.args.self.now) (omega arith); room = refl }
+pub returns-then-len-eq0-clause-rest : goal.returns-then-len-eq0-clause-rest
+returns-then-len-eq0-clause-rest c = none_rest (letters_of c.args.self.now) (omega arith)
 
 pub overflow_sub-self : goal.overflow_sub-self
 unfolding letters_of
@@ -20,9 +20,8 @@ overflow_add-self c =
     let lt : q.head < length q.slots.now = omega arith in
     search rules
 
-pub returns : goal.returns
+pub returns-clause-rest : goal.returns-clause-rest
 unfolding letters_of
-returns c =
+returns-clause-rest c =
     let q = c.args.self.now in
-    let e = row_length q.count q.head q.slots.now in
-    record { rest = row_rest q.slots.now q.head q.count (omega arith) (omega arith); room = refl }
+    row_rest q.slots.now q.head q.count (omega (arith, row_length q.count q.head q.slots.now)) (omega (arith, row_length q.count q.head q.slots.now))

@@ -1,34 +1,23 @@
-use Rattle.std.proofs.Common.{take, drop, sym, refl, ap, ◌∙◌, arith, rules}
+use Rattle.std.proofs.Common.{◌∙◌, take, ap, arith}
 use Rattle.queue.specs.Queues.{letters_of}
-use Rattle.queue.proofs.Rows.{row_length, row_again}
+use Rattle.queue.proofs.Rows.{row_length, row_again, row_moved}
 use Rattle.queue.proofs.Queue.gather.Goals as goal
 
-pub returns-then-n-saturating_sub : goal.returns-then-n-saturating_sub
+pub returns-then-h-n-clause-letters : goal.returns-then-h-n-clause-letters
 unfolding letters_of
-returns-then-n-saturating_sub c =
+returns-then-h-n-clause-letters c =
     let q = c.args.self.now in
-    record { letters = row_again q.count q.head q.slots.now c.args.n c.requires.0; room = (refl, omega arith) }
+    row_again q.count q.head q.slots.now c.args.n (omega arith)
 
-pub returns-then-n-eq0 : goal.returns-then-n-eq0
+pub copy_within-requires-clause-in_bounds : goal.copy_within-requires-clause-in_bounds
 unfolding letters_of
-returns-then-n-eq0 c =
-    let q = c.args.self.now in
-    record {
-      letters = ap (λ k. take k q.slots.now) c.if-n-eq0.true ∙ ap (λ k. take k (drop q.head q.slots.now)) (sym c.if-n-eq0.true) ∙ row_again q.count q.head q.slots.now c.args.n c.requires.0;
-      room = (refl, omega arith);
-    }
-
-pub shift-requires : goal.shift-requires
-unfolding letters_of
-shift-requires c =
+copy_within-requires-clause-in_bounds c =
     let q = c.args.self.now in
     omega (arith, row_length q.count q.head q.slots.now)
 
-pub returns : goal.returns
+pub returns-clause-letters : goal.returns-clause-letters
 unfolding letters_of
-returns c =
+returns-clause-letters c =
     let q = c.args.self.now in
-    record {
-      letters = c.shift.ensures ∙ row_again q.count q.head q.slots.now c.args.n c.requires.0;
-      room = (search rules, search rules);
-    }
+    ap (take c.args.n) c.copy_within.ensures.after
+    ∙ row_moved q.count q.head q.slots.now c.min-h.result c.args.n (omega arith) c.min-h.ensures

@@ -1,30 +1,37 @@
-use Rattle.std.proofs.Common.{◌+◌, ◌<◌, length, sym, ◌∙◌, arith, rules}
-use Rattle.std.proofs.lemmas.Bool.{lt-ltb, true≢false}
+use Rattle.std.proofs.Common.{◌+◌, ◌<◌, [], length, sym, arith, rules}
+use Rattle.std.proofs.lemmas.Option.{slice_get_past}
 use Rattle.queue.specs.Queues.{letters_of}
-use Rattle.queue.proofs.Rows.{row_length, row_at}
+use Rattle.queue.proofs.Rows.{row_length, row_get}
 use Rattle.queue.proofs.Queue.get.Goals as goal
 
-pub overflow_add-self : goal.overflow_add-self
+pub returns-then-i-len : goal.returns-then-i-len
+returns-then-i-len c = sym (slice_get_past (letters_of c.args.self.now) c.args.i (omega arith))
+
+pub overflow_add-result : goal.overflow_add-result
 unfolding letters_of
-overflow_add-self c =
+overflow_add-result c =
     let q = c.args.self.now in
     let e = row_length q.count q.head q.slots.now in
     let lt : q.head + c.args.i < length q.slots.now = omega arith in
     search rules
 
-pub read-requires : goal.read-requires
+pub bounds-all-self : goal.bounds-all-self
 unfolding letters_of
-read-requires c =
+bounds-all-self c =
     let q = c.args.self.now in
-    (omega (arith, row_length q.count q.head q.slots.now), c.requires)
+    let e = row_length q.count q.head q.slots.now in
+    omega arith
+
+pub offset_bounds-all-self : goal.offset_bounds-all-self
+unfolding letters_of
+offset_bounds-all-self c =
+    let q = c.args.self.now in
+    let e = row_length q.count q.head q.slots.now in
+    let lt : q.head + c.args.i < length q.slots.now = omega arith in
+    search rules
 
 pub returns : goal.returns
 unfolding letters_of
 returns c =
     let q = c.args.self.now in
-    let e = row_length q.count q.head q.slots.now in
-    record {
-      is = sym (lt-ltb _ _ (omega arith));
-      letter = λ _. c.read.ensures ∙ sym (row_at q.count q.head q.slots.now c.args.i _ (omega arith));
-      same = λ f. absurd (true≢false f);
-    }
+    sym (row_get q.count q.head q.slots.now c.args.i [] (omega arith))

@@ -1,11 +1,7 @@
-use Rattle.std.proofs.Common.{◌+◌, ◌<◌, length, take, drop, sym, refl, ap, ◌∙◌, arith, rules}
-use Rattle.std.proofs.lemmas.List.{set_past}
+use Rattle.std.proofs.Common.{◌+◌, ◌<◌, length, arith, rules}
 use Rattle.queue.specs.Queues.{letters_of}
 use Rattle.queue.proofs.Rows.{row_length, row_set}
 use Rattle.queue.proofs.Queue.replace.Goals as goal
-
-pub returns-then-i-len : goal.returns-then-i-len
-returns-then-i-len c = record { letters = sym (set_past (letters_of c.args.self.now) c.args.i c.args.letter.now (omega arith)); room = refl }
 
 pub overflow_add-at : goal.overflow_add-at
 unfolding letters_of
@@ -15,17 +11,23 @@ overflow_add-at c =
     let lt : q.head + c.args.i < length q.slots.now = omega arith in
     search rules
 
-pub file-requires : goal.file-requires
+pub bounds-self-at : goal.bounds-self-at
 unfolding letters_of
-file-requires c =
+bounds-self-at c =
     let q = c.args.self.now in
-    (omega (arith, row_length q.count q.head q.slots.now), c.requires)
+    let e = row_length q.count q.head q.slots.now in
+    omega arith
 
-pub returns : goal.returns
+pub offset_bounds-self-at : goal.offset_bounds-self-at
 unfolding letters_of
-returns c =
+offset_bounds-self-at c =
     let q = c.args.self.now in
-    record {
-      letters = ap (λ xs. take q.count (drop q.head xs)) c.file.ensures ∙ row_set q.count q.head q.slots.now c.args.i c.args.letter.now;
-      room = search rules;
-    }
+    let e = row_length q.count q.head q.slots.now in
+    let lt : q.head + c.args.i < length q.slots.now = omega arith in
+    search rules
+
+pub returns-clause-letters : goal.returns-clause-letters
+unfolding letters_of
+returns-clause-letters c =
+    let q = c.args.self.now in
+    row_set q.count q.head q.slots.now c.args.i c.args.letter.now (omega (arith, row_length q.count q.head q.slots.now))
