@@ -1,12 +1,11 @@
 -- The part of a list that begins at h and has at most c elements: how long it is, what stands in it, and what becomes of it.
 -- Assumes nothing.
-use Rattle.std.proofs.Common.{◌≡◌, ℕ, Some, slice_get, zero, suc, ◌+◌, ◌-◌, ◌<◌, ◌≤◌, min, List, [], ◌∷◌, ◌++◌, length, get_or, take, drop, set, sym, refl, ap, ◌∙◌, arith, length-drop, length-take}
-use Rattle.std.proofs.lemmas.List.{take_more_set, drop-set-add, drop_more, drop_min, get_or-take, get_or-drop}
+use Rattle.std.proofs.Common.{◌≡◌, ℕ, zero, suc, ◌+◌, ◌-◌, ◌<◌, ◌≤◌, min, List, [], ◌∷◌, ◌++◌, length, take, drop, set, sym, refl, ap, ◌∙◌, arith, length-drop, length-take}
+use Rattle.std.proofs.lemmas.List.{take_more_set, drop-set-add, drop_more, drop_min}
 use Rattle.std.proofs.Math.Seq.{paste, take-set-lt}
-use Rattle.std.proofs.lemmas.Option.{slice_get-get_or}
 use Rattle.std.proofs.lemmas.List.Edits.{take-paste}
 use Rattle.std.specs.List.{copy_within}
-use Rattle.moving.specs.Hosts.{rest'}
+use Rattle.moving.specs.Hosts.{head_is, rest'}
 
 pub row_length : {A : Type 0} (c h : ℕ) (xs : List A) → length (take c (drop h xs)) ≡ min c (length xs - h)
 row_length c h xs = simp (length-take, length-drop)
@@ -31,12 +30,10 @@ row_moved c h xs k n e f =
     ∙ ap (take n) (ap (λ j. drop j xs) f ∙ drop_min h xs)
     ∙ row_again c h xs n e
 
-pub row_get : {A : Type 0} (c h : ℕ) (xs : List A) (i : ℕ) (d : A) → i < length (take c (drop h xs)) → slice_get (take c (drop h xs)) i ≡ Some (get_or xs (h + i) d)
-row_get c h xs i d lt = slice_get-get_or (take c (drop h xs)) i d lt ∙ ap Some (get_or-take c (drop h xs) i d (omega (arith, row_length c h xs)) ∙ get_or-drop h xs i d)
-
 -- one more at the end
-pub row_push : {A : Type 0} (xs : List A) (h n : ℕ) (l : A) → h + n < length xs → take (n + 1) (drop h (set xs (h + n) l)) ≡ take n (drop h xs) ++ l ∷ []
-row_push xs h n l lt = ap (take (n + 1)) (drop-set-add h xs n l) ∙ take_more_set (drop h xs) n l (simp length-drop (omega arith))
+pub row_push : {A : Type 0} (xs : List A) (h n : ℕ) (l : A) (ys : List A) → h + n < length xs → take n (drop h xs) ≡ ys → take (n + 1) (drop h (set xs (h + n) l)) ≡ ys ++ l ∷ []
+row_push xs h n l ys lt e =
+    ap (take (n + 1)) (drop-set-add h xs n l) ∙ take_more_set (drop h xs) n l (simp length-drop (omega arith)) ∙ ap (λ r. r ++ l ∷ []) e
 
 -- another one at place i
 pub row_set : {A : Type 0} (c h : ℕ) (xs : List A) (i : ℕ) (v : A) → i < c → take c (drop h (set xs (h + i) v)) ≡ set (take c (drop h xs)) i v
@@ -48,6 +45,17 @@ unfolding rest'
 row_rest xs h zero lt p = absurd (omega arith)
 row_rest xs h (suc c) lt p =
     ap (λ k. take k (drop (h + 1) xs)) (omega arith) ∙ ap (λ ys. rest' (take (suc c) ys)) (sym (drop_more xs h [] lt))
+
+-- the first letter, or that there is none
+pub head_some : (r : List (List ℕ)) (l : List ℕ) → Some l ≡ slice_get r 0 → head_is r true l
+unfolding head_is
+head_some [] l e = cc
+head_some (x ∷ xs) l e = (refl, cc)
+
+pub head_none : (r : List (List ℕ)) (l : List ℕ) → None ≡ slice_get r 0 → head_is r false l
+unfolding head_is
+head_none [] l e = refl
+head_none (x ∷ xs) l e = cc
 
 -- where there is none, none is left
 pub none_rest : (r : List (List ℕ)) → length r ≤ 0 → r ≡ rest' r

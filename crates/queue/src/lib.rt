@@ -19,6 +19,7 @@ pub struct Full;
 
 impl<'a> Queue<'a> {
     // An empty queue.
+    #[tactic(auto, unfolding(crate::specs::Queues::letters_of))]
     pub fn new(slots: &'a mut [[u64; 72]]) -> Queue<'a>
         ensures letters { letters_of result ≡ [] }
         ensures room { room_of result ≡ length slots.old }
@@ -38,6 +39,7 @@ impl<'a> Queue<'a> {
     }
 
     // How many letters wait.
+    #[tactic(auto, using(crate::proofs::Rows::row_length), unfolding(crate::specs::Queues::letters_of))]
     pub fn len(&self) -> usize
         ensures { result ≡ length (letters_of self.now) }
     {
@@ -61,6 +63,7 @@ impl<'a> Queue<'a> {
     }
 
     // The same letters, with room behind them.
+    #[tactic(auto, using(crate::proofs::Rows::row_length, crate::proofs::Rows::row_again, crate::proofs::Rows::row_moved), unfolding(crate::specs::Queues::letters_of))]
     fn gather(&mut self, n: usize)
         requires { (n ≡ length (letters_of self.old)) × (n < room_of self.old) }
         ensures letters { take n (drop self.new.head self.new.slots.now) ≡ letters_of self.old }
@@ -86,6 +89,7 @@ impl<'a> Queue<'a> {
     }
 
     // Without its first letter.
+    #[tactic(auto, using(crate::proofs::Rows::row_length, crate::proofs::Rows::row_rest, crate::proofs::Rows::none_rest), unfolding(crate::specs::Queues::letters_of))]
     pub fn drop_first(&mut self)
         ensures rest { letters_of self.new ≡ rest' (letters_of self.old) }
         ensures room { room_of self.new ≡ room_of self.old }
@@ -98,6 +102,7 @@ impl<'a> Queue<'a> {
     }
 
     // The letter at place i.
+    #[tactic(auto, using(crate::proofs::Rows::row_length), unfolding(crate::specs::Queues::letters_of))]
     pub fn get(&self, i: usize) -> Option<&[u64; 72]>
         ensures { option_copied result ≡ slice_get (letters_of self.now) i }
     {
@@ -109,6 +114,7 @@ impl<'a> Queue<'a> {
     }
 
     // Another letter stands at place i, if there is such a place.
+    #[tactic(auto, using(crate::proofs::Rows::row_length, crate::proofs::Rows::row_set), unfolding(crate::specs::Queues::letters_of))]
     pub fn replace(&mut self, i: usize, letter: &[u64; 72])
         ensures letters { letters_of self.new ≡ slice_set (letters_of self.old) i letter.now }
         ensures room { room_of self.new ≡ room_of self.old }
