@@ -152,7 +152,7 @@ impl<'a> Side<'a> {
     // Whether it was told to move its guest, which it is told once.
     pub fn hear(&mut self) -> bool
         ensures turns { Turns 0 self.old (told_by false) self.new }
-        ensures was { (n : ℕ) → result ≡ (host n self.old).told }
+        ensures was { result ≡ self.old.told }
     {
         let was = self.told;
         self.told = false;
