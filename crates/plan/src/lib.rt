@@ -227,16 +227,11 @@ impl Plan {
         ensures hand { result ≡ hand_of who self.old }
         ensures left { self.new ≡ handed who self.old }
     {
-        match who {
-            Who::Zero => self.chance.comes(),
-            Who::One => {
-                if self.again == 0 {
-                    return self.chance.comes();
-                }
-                self.again -= 1;
-                Hand::Again(0)
-            }
+        if who == Who::One && self.again > 0 {
+            self.again -= 1;
+            return Hand::Again(0);
         }
+        self.chance.comes()
     }
 
     // What a fall leaves of its pages.
