@@ -228,7 +228,8 @@ impl<'a> Pair<'a> {
     pub fn post(&mut self, letter: &[u64; 72], post: Post) -> bool
         ensures { PostedIn post.lost post.kept (other (world_of self.old)) (world_of self.old) letter.now result (world_of self.new) }
     {
-        self.at(other(self.turn), |side| side.post(letter, post))
+        let to = other(self.turn);
+        self.at(to, |side| side.post(letter, post))
     }
 
     // The first letter that waits for the host whose turn it is, which is taken off.

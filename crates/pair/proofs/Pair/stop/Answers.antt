@@ -9,7 +9,7 @@ use Rattle.pair.proofs.Sides.{host_is}
 use Rattle.pair.proofs.Pair.stop.Goals as goal
 
 pub copy_from_slice-requires : goal.copy_from_slice-requires
-copy_from_slice-requires c = simp length-take (omega arith)
+copy_from_slice-requires c = simp (length-take, length-drop) (omega arith)
 
 pub returns : goal.returns
 returns c =
