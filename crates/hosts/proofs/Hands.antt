@@ -1,6 +1,6 @@
 -- A letter that is handed over as planned.
 -- Assumes nothing.
-use Rattle.std.proofs.Common.{◌≡◌, ℕ, ◌%◌, Bool, true, false, List, [], length, Ok, Err, sym, refl, ap, ◌∙◌, subst, subst₂, inl, inr, arith}
+use Rattle.std.proofs.Common.{◌≡◌, ℕ, ◌%◌, Bool, true, false, List, [], length, is_err, Ok, Result, sym, refl, ap, ◌∙◌, subst, subst₂, inl, inr, arith}
 use mathlib.Core.Path.{subst₃}
 use mathlib.Core.List.Memᴰ
 use mathlib.Core.List.{Memᴰ}
@@ -20,7 +20,7 @@ use Rattle.plan.specs.Plans.{hand_of, handed}
 use Rattle.hosts.specs.declared.Hosts.{Hosts}
 use Rattle.hosts.specs.Stories.{Story, story_of}
 use Rattle.hosts.specs.Follows.{world_of, HandsNext, Hands, Hears, Follows, Began, asked_now}
-use Rattle.hosts.proofs.Plans.{as_planned, follows_does}
+use Rattle.hosts.proofs.Plans.{as_planned, follows_does, err_case}
 
 next_gives : (w : World) (b : Bool) (l : List ℕ) (d : World) → HandsNext w b l d → Gives w b l d
 next_gives w b l d h = subst (Gives w b l) (sym h.1) (next b l h.0)
@@ -73,8 +73,9 @@ hears_of h m due ok b l x q t g begun hands plan story ends =
 pub hears_gets : {h g : Hosts} {b : Bool} {l : List ℕ} → Hears h b l true g → Gets (world_of h) (Ok b) l (world_of g)
 hears_gets {h = h} {b = b} {l = l} k = gets k.d b l _ (hands_gives _ (world_of h) b l k.d k.hands) (follows_does k.follows)
 
-pub hears_falls : {h g : Hosts} {b : Bool} {l : List ℕ} (x : Down) (m : List ℕ) → Hears h b l false g → Gets (world_of h) (Err x) m (world_of g)
-hears_falls {h = h} {b = b} {l = l} x m k = falls x k.d b l m _ (hands_gives _ (world_of h) b l k.d k.hands) (follows_does k.follows)
+pub hears_falls : {h g : Hosts} {b : Bool} {l : List ℕ} (r : Result Bool Down) (m : List ℕ) → is_err r ≡ true → Hears h b l false g → Gets (world_of h) r m (world_of g)
+hears_falls {h = h} {g = g} {b = b} {l = l} r m e k =
+    err_case (λ r. Gets (world_of h) r m (world_of g)) r e (λ x. falls x k.d b l m _ (hands_gives _ (world_of h) b l k.d k.hands) (follows_does k.follows))
 
-pub gets_none : (w : World) (x : Down) (m : List ℕ) (v : World) → ((d : World) → Does w d false v) → Gets w (Err x) m v
-gets_none w x m v f = falls x _ false [] m v (nothing [] [] (λ y n. absurd (Memᴰ.not-nil n)) (omega arith)) (f _)
+pub gets_none : (w : World) (r : Result Bool Down) (m : List ℕ) (v : World) → is_err r ≡ true → ((d : World) → Does w d false v) → Gets w r m v
+gets_none w r m v e f = err_case (λ r. Gets w r m v) r e (λ x. falls x _ false [] m v (nothing [] [] (λ y n. absurd (Memᴰ.not-nil n)) (omega arith)) (f _))

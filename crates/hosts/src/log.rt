@@ -1,5 +1,5 @@
 // What happened, in the order in which it did, in memory that is lent; what there is no room for is counted.
-ghost use Rattle.std.specs.Prelude.{◌≡◌, ℕ, ◌<◌, ◌≤◌, [], length, MatchOption, slice_index_or};
+ghost use Rattle.std.specs.Prelude.{◌≡◌, [], length, min, take};
 ghost use Rattle.hosts.specs.Stories.{story_of, noted};
 
 use side::Who;
@@ -53,14 +53,12 @@ impl<'a> Log<'a> {
         self.missed = self.missed.saturating_add(1);
     }
 
-    // What happened as the i-th thing, from 0.
-    pub fn at(&self, i: usize) -> Option<Event>
-        ensures { MatchOption result (length (story_of self.now).events ≤ i) (λ e. (i < length (story_of self.now).events) × (e ≡ slice_index_or (story_of self.now).events i e)) }
+    // What happened, in the order in which it did.
+    pub fn events(&self) -> &[Event]
+        ensures { result.now ≡ (story_of self.now).events }
     {
-        if i >= self.count.min(self.events.len()) {
-            return None;
-        }
-        Some(self.events[i])
+        let told = self.count.min(self.events.len());
+        &self.events[..told]
     }
 
     // How many things happened for which there was no room.

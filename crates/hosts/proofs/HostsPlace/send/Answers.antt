@@ -2,14 +2,15 @@ use Rattle.std.proofs.Common.{◌<◌, sym, ap, ◌∙◌, subst}
 use Rattle.plan.specs.Plans.{post_of, posted}
 use Rattle.hosts.specs.Stories.{story_of}
 use Rattle.hosts.specs.Follows.{world_of, sent_by, asked_now}
-use Rattle.hosts.proofs.Plans.{follows_does, as_planned}
+use Rattle.hosts.proofs.Plans.{follows_does, falls_as, as_planned}
 use Rattle.hosts.proofs.Posts.{posts_none, posts_of, sent_counted}
-use Rattle.hosts.proofs.Hosts.ask_send.Goals as goal
+use Rattle.hosts.proofs.HostsPlace.send.Goals as goal
 
-pub returns-in-Err : goal.returns-in-Err
-returns-in-Err c =
+pub returns-in_err-due : goal.returns-in_err-due
+returns-in_err-due c =
     let h = c.args.self.now in
-    record { posts = posts_none _ _ _ (λ d. follows_does (c.in-Err.ensures d h.plan (story_of h.log))); planned = λ _. c.in-Err.ensures _ _ _ }
+    let e = c.from_residual.ensures.0 in
+    record { posts = posts_none _ _ _ _ (λ d. follows_does (falls_as _ e (c.in_err-due.ensures d h.plan (story_of h.log)))); planned = λ _. falls_as _ e (c.in_err-due.ensures _ _ _) }
 
 pub returns : goal.returns
 returns c =
@@ -17,7 +18,7 @@ returns c =
     let m = c.begin.new.self in
     let w = world_of h in
     let l = c.args.letter.now in
-    let begun = c.in-Ok.ensures in
+    let begun = c.in_ok-due.ensures in
     let sent = c.post.ensures in
     record {
       posts = posts_of w l _ _ _ _ begun.world sent.sends (λ d e. follows_does (c.end.ensures h d begun.up begun.fate e));

@@ -4,7 +4,7 @@ use Rattle.plan.specs.Plans as plans
 use Rattle.plan.specs.Plans.{wish_of, writes_of}
 use Rattle.hosts.specs.Follows.{world_of, fills, wishes}
 use Rattle.hosts.proofs.Between.{wishes_pages, between_of}
-use Rattle.hosts.proofs.Hosts.sky_between.Goals as goal
+use Rattle.hosts.proofs.HostsSky.between.Goals as goal
 
 pub returns : goal.returns
 returns c =

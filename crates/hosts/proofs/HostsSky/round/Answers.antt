@@ -2,7 +2,7 @@ use Rattle.std.proofs.Common.{refl, ◌∙◌, arith}
 use Rattle.side.proofs.Sizes.{size_most}
 use Rattle.hosts.specs.Follows.{world_of}
 use Rattle.hosts.proofs.Between.{few_calm, few_still, closed_few}
-use Rattle.hosts.proofs.Hosts.sky_round.Goals as goal
+use Rattle.hosts.proofs.HostsSky.round.Goals as goal
 
 pub returns : goal.returns
 returns c =
