@@ -205,10 +205,9 @@ fn obey(rt: &HostRuntime, hosts: &mut Hosts, night: &mut Night, command: Command
         Command::Round { rounds: many } => rounds(rt, hosts, night, many),
         Command::Write { page, word } => write(rt, hosts, night, page, word),
         Command::Fall { host, ask, after } => {
-            if host == 0 {
-                hosts.plan.zero = Fall { ask, after };
-            } else {
-                hosts.plan.one = Fall { ask, after };
+            match host {
+                who::Who::Zero => hosts.plan.zero = Fall { ask, after },
+                who::Who::One => hosts.plan.one = Fall { ask, after },
             }
             Ok(())
         }

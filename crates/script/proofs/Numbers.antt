@@ -1,20 +1,14 @@
 -- Texts that are numbers, and texts that a space parts.
-use Rattle.std.proofs.Common.{◌≡◌, ℕ, suc, ◌^◌, ◌<◌, false, eqb, List, [], ◌∷◌, ◌++◌, length, get_or, Some, None, Ok, Err, decimal, Option, Result, unwrap_or, sym, refl, ap, ◌∙◌, inl, inr, suc-le-suc, arith, Bor}
+use Rattle.std.proofs.Common.{◌≡◌, ℕ, suc, ◌^◌, ◌<◌, false, eqb, List, [], ◌∷◌, ◌++◌, length, get_or, Some, None, Ok, Err, decimal, Option, Result, sym, refl, ap, ◌∙◌, inl, inr, suc-le-suc, arith, Bor}
 use Rattle.std.proofs.lemmas.Fmt.{decimal_digit, first_decimal, digits_decimal, decimal-digits_value, decimal_nonempty, parse-decimal}
 use Rattle.std.proofs.lemmas.Str.Parse.{IsNumeralModel, numerals_by_value, tells_digits, digit_at, parse_plain, not_in_digits}
 use Rattle.std.proofs.lemmas.Str.Pattern.{IsSplitOnceResult, split_parts}
 use Rattle.std.proofs.lemmas.Bool.{cases_eq, ne_eqb}
-use Rattle.std.specs.Option.{option_map}
+use Rattle.std.proofs.lemmas.Option.{same_Some}
 use Rattle.std.specs.Str.Parse.{AllDigits, digits_value, ParsesUnsigned}
 use Rattle.std.specs.Result.{result_ok}
 use Rattle.std.specs.Int.{IsInRange}
 use Rattle.script.specs.Reading.{led, Leads, parted, Parts, Plain, Reads}
-
-none : {A : Type 0} {x : A} → None ≡ Some x → ⊥
-none e = let z : ◌≡◌ {A = ℕ} 0 1 = cc in omega arith
-
-same : {u v x y : List ℕ} → ◌≡◌ {A = Option (List ℕ × List ℕ)} (Some (u, v)) (Some (x, y)) → (u ≡ x) × (v ≡ y)
-same e = (ap (λ (o : Option (List ℕ × List ℕ)). (unwrap_or o ([], [])).0) e, ap (λ (o : Option (List ℕ × List ℕ)). (unwrap_or o ([], [])).1) e)
 
 own : IsNumeralModel (AllDigits 10) (digits_value 10)
 own = numerals_by_value _ tells_digits
@@ -22,7 +16,7 @@ own = numerals_by_value _ tells_digits
 -- a decimal begins with a digit, and with a nought only where that is all
 plain_decimal : (n : ℕ) → n < 2 ^ 64 → Plain (decimal n)
 plain_decimal n h = (
-  (λ l e. omega (arith, digit_at (decimal n) 0 (digits_decimal own n h) (decimal_nonempty n h))),
+  (λ e. omega (arith, digit_at (decimal n) 0 (digits_decimal own n h) (decimal_nonempty n h))),
   λ e. elim (cases_eq n 0) [
     | inl z ↦ rw (z, decimal_digit 0 (omega arith)) (omega arith)
     | inr z ↦ absurd (omega (arith, first_decimal n (omega arith) h))
@@ -32,13 +26,9 @@ plain_decimal n h = (
 pub not_plain : (bs : List ℕ) → (Plain bs → ⊥) → Reads (λ n. n < 2 ^ 64) decimal bs None
 not_plain bs p = record { all = λ n h e. absurd (p (rw e (plain_decimal n h))); only = tt }
 
-not_plus : (bs : List ℕ) → Plain bs → get_or bs 0 0 ≡ 43 → ⊥
-not_plus [] p e = omega arith
-not_plus (b ∷ bs) p e = p.0 (omega arith) e
-
 pub parsed : (E : Type 0) (bs : List ℕ) (r : Result ℕ E) → Plain bs → ParsesUnsigned 64 10 bs r → Reads (λ n. n < 2 ^ 64) decimal bs (result_ok r)
 parsed E bs (Ok x) p h =
-    let q = parse_plain own {E = E} 64 bs (Ok x) h (not_plus bs p) in
+    let q = parse_plain own {E = E} 64 bs (Ok x) h p.0 in
     record {
       all = λ n l e. ap (result_ok {E = E}) (parse-decimal {E = E} 64 n bs (Ok x) l l e h);
       only = rw q.1 (q.0.2, sym (decimal-digits_value own bs q.0.0 q.0.1 (λ e. omega (arith, p.1 e, q.0.1)) q.0.2));
@@ -73,14 +63,19 @@ parted_led : (n : ℕ) (rest : List ℕ) → n < 2 ^ 64 → parted (led n rest) 
 parted_led n rest h = parted_some (decimal n) rest (not_in_digits own (decimal n) 32 (digits_decimal own n h) (λ (d : IsInRange 48 57 32). omega arith))
 
 pub not_led : (bs : List ℕ) → Parts bs None → Leads bs None
-not_led bs s = record { all = λ n rest h e. none (s.are ∙ ap parted e ∙ parted_led n rest h); only = tt }
+not_led bs s = record { all = λ n rest h e. let p = s.are ∙ ap parted e ∙ parted_led n rest h in cc; only = tt }
 
-pub by_parts : (bs : List ℕ) (p : Bor (List ℕ) × Bor (List ℕ)) (o : Option ℕ) → Parts bs (Some p) → Reads (λ n. n < 2 ^ 64) decimal p.0.now o → Leads bs (option_map (λ n. (n, p.1)) o)
-by_parts bs p None s r = record {
-  all = λ n rest h e. none (r.all n h (same (s.are ∙ ap parted e ∙ parted_led n rest h)).0);
+parts_of_led : (n : ℕ) (bs text : List ℕ) (w rest : Bor (List ℕ)) → n < 2 ^ 64 → Parts bs (Some (w, rest)) → bs ≡ led n text → (w.now ≡ decimal n) × (rest.now ≡ text)
+parts_of_led n bs text w rest h s e = let q = same_Some _ _ (s.are ∙ ap parted e ∙ parted_led n text h) in (ap (λ t. t.0) q, ap (λ t. t.1) q)
+
+pub not_led_by : (bs : List ℕ) (w rest : Bor (List ℕ)) → Parts bs (Some (w, rest)) → Reads (λ n. n < 2 ^ 64) decimal w.now None → Leads bs None
+not_led_by bs w rest s r = record {
+  all = λ n text h e. let z = r.all n h (parts_of_led n bs text w rest h s e).0 in cc;
   only = tt;
 }
-by_parts bs p (Some m) s r = record {
-  all = λ n rest h e. let q = same (s.are ∙ ap parted e ∙ parted_led n rest h) in let z = r.all n h q.0 in (cc, q.1);
-  only = (r.only.0, s.whole ∙ ap (λ (w : List ℕ). w ++ 32 ∷ p.1.now) r.only.1);
+
+pub led_by : (bs : List ℕ) (m : ℕ) (w rest : Bor (List ℕ)) → Parts bs (Some (w, rest)) → Reads (λ n. n < 2 ^ 64) decimal w.now (Some m) → Leads bs (Some (m, rest))
+led_by bs m w rest s r = record {
+  all = λ n text h e. let q = parts_of_led n bs text w rest h s e in let z = r.all n h q.0 in (cc, q.1);
+  only = (r.only.0, s.whole ∙ ap (λ (t : List ℕ). t ++ 32 ∷ rest.now) r.only.1);
 }

@@ -10,7 +10,7 @@ pub record Reads {A : Type 0} (Right : A → Type 0) (spell : A → List ℕ) (t
 
 -- no plus is in front, and a nought only alone
 abbrev pub Plain : List ℕ → Type 0
-Plain text = (0 < length text → slice_index text 0 ≢ 43) × (slice_index text 0 ≡ 48 → length text ≤ 1)
+Plain text = (slice_index text 0 ≢ 43) × (slice_index text 0 ≡ 48 → length text ≤ 1)
 
 -- the text before its first space, and the text after that space
 abbrev pub parted : List ℕ → Option (List ℕ × List ℕ)

@@ -7,6 +7,7 @@ mod words;
 
 pub use lines::Line;
 pub use reading::read;
+use who::Who;
 
 // One line of a script. `spelt`, in specs/Spelling.antt, says how each is written, and `Valid` which numbers it takes.
 #[derive(Clone, Copy, Debug, PartialEq, Eq)]
@@ -14,7 +15,7 @@ pub enum Command {
     Move,
     Round { rounds: u32 },
     Write { page: u32, word: u64 },
-    Fall { host: u32, ask: u32, after: bool },
+    Fall { host: Who, ask: u32, after: bool },
     Lose { letter: u32 },
     Again,
     Any { seed: u64, rounds: u32 },

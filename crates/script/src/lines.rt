@@ -1,89 +1,69 @@
 // A line as it comes in.
-ghost use Rattle.std.specs.Prelude.{◌≡◌, ℕ, ◌<◌, List, [], ◌∷◌, ◌++◌, length, Decides, MatchBool, MatchOption};
-ghost use Rattle.script.specs.Lines.{Holds};
+ghost use Rattle.std.specs.Prelude.{◌≡◌, ℕ, List, [], ◌∷◌, ◌++◌, Decides, Some};
+ghost use Rattle.script.specs.Lines.{Holds, pushed};
 ghost use Rattle.script.specs.Spelling.{Says};
 
 use crate::Command;
 use crate::reading::read;
+use arrayvec::ArrayVec;
+use std::marker::Model;
 
 // The bytes of one line, pushed one by one. No command has more than 64, so of a line that is longer it is enough to know
 // that it is.
 #[derive(Drop)]
 pub struct Line {
-    bytes: [u8; 64],
-    len: usize,
-    long: bool,
+    bytes: Option<ArrayVec<u8, 64>>,
+}
+
+impl Model for Line {
+    ghost use Rattle.std.specs.Prelude.{ℕ, List, Option};
+    ghost use Rattle.std.specs.Option.{option_map};
+
+    ghost Value = { Option (List ℕ) };
+
+    ghost view = { λ line. option_map (λ bytes. bytes.items) line.bytes };
 }
 
 impl Line {
     // The line with no byte.
     pub fn new() -> Line
-        ensures { Holds result [] }
+        ensures { result ≡ Some [] }
     {
         Line {
-            bytes: [0; 64],
-            len: 0,
-            long: false,
+            bytes: Some(ArrayVec::new()),
         }
-    }
-
-    // Writes `b` after the bytes in the buffer, if there is room.
-    fn store(&mut self, b: u8) -> bool
-        ensures { (bs : List ℕ) → Holds self.old bs → MatchBool result (Holds self.new (bs ++ b ∷ [])) (64 < length (bs ++ b ∷ [])) }
-    {
-        if self.len >= 64 {
-            return false;
-        }
-        self.bytes[self.len] = b;
-        self.len += 1;
-        true
     }
 
     // Puts `b` after the bytes of the line.
     pub fn push(&mut self, b: u8)
-        ensures { (bs : List ℕ) → Holds self.old bs → Holds self.new (bs ++ b ∷ []) }
+        ensures bytes { self.new ≡ pushed self.old b }
+        ensures all { (bs : List ℕ) → Holds self.old bs → Holds self.new (bs ++ b ∷ []) }
     {
-        if !self.store(b) {
-            self.long = true;
+        if let Some(bytes) = &mut self.bytes
+            && bytes.try_push(b).is_err()
+        {
+            self.bytes = None;
         }
     }
 
     // Takes all bytes from the line.
     pub fn clear(&mut self)
-        ensures { Holds self.new [] }
+        ensures { self.new ≡ Some [] }
     {
-        self.len = 0;
-        self.long = false;
-    }
-
-    // The bytes of the line, unless they are too many. `len` never passes 64, which its type does not say.
-    fn text(&self) -> Option<&[u8]>
-        ensures { (bs : List ℕ) → Holds self.now bs → MatchOption result (64 < length bs) (λ t. t.now ≡ bs) }
-    {
-        if self.long {
-            None
-        } else {
-            Some(&self.bytes[0..self.len.min(64)])
-        }
+        *self = Line::new();
     }
 
     // Whether the line has no byte.
     pub fn is_empty(&self) -> bool
-        ensures { (bs : List ℕ) → Holds self.now bs → Decides result (bs ≡ []) }
+        ensures { Decides result (self.now ≡ Some []) }
     {
-        match self.text() {
-            Some(text) => text.is_empty(),
-            None => false,
-        }
+        self.bytes.as_ref().is_some_and(|bytes| bytes.is_empty())
     }
 
     // The command that the bytes of the line are, as `read` gives it.
     pub fn command(&self, pages: u32) -> Option<Command>
         ensures { (bs : List ℕ) → Holds self.now bs → Says pages bs result }
     {
-        match self.text() {
-            Some(text) => read(text, pages),
-            None => None,
-        }
+        read(self.bytes.as_ref()?, pages)
     }
 }

@@ -4,6 +4,7 @@ ghost use Rattle.script.specs.Spelling.{spelt, Valid, Says};
 
 use crate::Command;
 use crate::words::*;
+use who::Who;
 
 fn round(args: &str) -> Option<Command>
     ensures { (pages : ℕ) → Says pages (codes "round " ++ args.now) result }
@@ -17,14 +18,8 @@ fn write(args: &str, pages: u32) -> Option<Command>
 {
     let (page, rest) = lead(args)?;
     let word = number(rest)?;
-    if page < pages as u64 {
-        Some(Command::Write {
-            page: page as u32,
-            word,
-        })
-    } else {
-        None
-    }
+    let page = u32::try_from(page).ok()?;
+    (page < pages).then_some(Command::Write { page, word })
 }
 
 fn fall(args: &str) -> Option<Command>
@@ -32,29 +27,21 @@ fn fall(args: &str) -> Option<Command>
 {
     let (host, rest) = lead(args)?;
     let (ask, side) = lead(rest)?;
+    let host = Who::try_from(u32::try_from(host).ok()?).ok()?;
+    let ask = u32::try_from(ask).ok()?;
     let after = match side {
         "before" => false,
         "after" => true,
         _ => return None,
     };
-    if host < 2 && 0 < ask && ask <= u32::MAX as u64 {
-        Some(Command::Fall {
-            host: host as u32,
-            ask: ask as u32,
-            after,
-        })
-    } else {
-        None
-    }
+    (ask > 0).then_some(Command::Fall { host, ask, after })
 }
 
 fn lose(args: &str) -> Option<Command>
     ensures { (pages : ℕ) → Says pages (codes "lose " ++ args.now) result }
 {
-    match small(args)? {
-        0 => None,
-        letter => Some(Command::Lose { letter }),
-    }
+    let letter = small(args)?;
+    (letter > 0).then_some(Command::Lose { letter })
 }
 
 fn any(args: &str) -> Option<Command>
@@ -88,12 +75,10 @@ fn command(text: &str, pages: u32) -> Option<Command>
 }
 
 // The command that the line is, the whole of it, for a guest of so many pages.
+#[tactic(auto, using(crate::proofs::Spellings::utf8_spelt))]
 pub fn read(line: &[u8], pages: u32) -> Option<Command>
     ensures reads { (c : Command) → Valid pages c → line.now ≡ spelt c → result ≡ Some c }
     ensures only { IfSome result (λ c. Valid pages c × (line.now ≡ spelt c)) }
 {
-    match std::str::from_utf8(line) {
-        Ok(text) => command(text, pages),
-        Err(_) => None,
-    }
+    command(std::str::from_utf8(line).ok()?, pages)
 }

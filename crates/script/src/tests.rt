@@ -1,5 +1,6 @@
 use crate::{Command, Line, read};
 use std::process::Abort;
+use who::Who;
 
 #[test]
 fn commands(rt: HostRuntime) {
@@ -15,7 +16,7 @@ fn commands(rt: HostRuntime) {
     assert_eq!(rt;
         read(b"fall 0 1 before", 32),
         Some(Command::Fall {
-            host: 0,
+            host: Who::Zero,
             ask: 1,
             after: false,
         })
@@ -23,7 +24,7 @@ fn commands(rt: HostRuntime) {
     assert_eq!(rt;
         read(b"fall 1 20 after", 32),
         Some(Command::Fall {
-            host: 1,
+            host: Who::One,
             ask: 20,
             after: true,
         })

@@ -6,13 +6,11 @@ ghost use Rattle.script.specs.Reading.{Leads, Parts, Plain, Reads};
 fn is_plain(text: &[u8]) -> bool
     ensures { Decides result (Plain text.now) }
 {
-    match text {
-        [b'+', ..] | [b'0', _, ..] => false,
-        _ => true,
-    }
+    !matches!(text, [b'+', ..] | [b'0', _, ..])
 }
 
 // The number that the text is, in the one way to write it: digits alone, and no nought in front.
+#[tactic(auto, using(crate::proofs::Numbers::not_plain, crate::proofs::Numbers::parsed))]
 pub fn number(text: &str) -> Option<u64>
     ensures { Reads (λ n. n < 2 ^ 64) decimal text.now result }
 {
@@ -38,6 +36,7 @@ pub fn cut(text: &str) -> Option<(&str, &str)>
 }
 
 // The number before the first space, and what comes after that space.
+#[tactic(auto, using(crate::proofs::Numbers::not_led, crate::proofs::Numbers::not_led_by, crate::proofs::Numbers::led_by))]
 pub fn lead(text: &str) -> Option<(u64, &str)>
     ensures { Leads text.now result }
 {
