@@ -12,6 +12,7 @@ ghost use Rattle.hosts.specs.Makes.{refusal_of, memory_of, row_of, kept_of, Made
 ghost use Rattle.hosts.specs.Follows.{world_of, event, Fell, fills, Follows, Plain, Tells, SentAs, sent_by, Hands, Hears, FallsHearing, wishes, BetweenAs, Began, Ended};
 
 pub mod log;
+pub mod memory;
 
 use log::{Event, Log, What};
 use moving::{Down, Place, Sky};
