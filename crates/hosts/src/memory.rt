@@ -6,28 +6,54 @@ use super::{Hosts, Lent, Refused};
 use crate::log::{Event, What};
 use side::Who;
 
-// For how many things that happened there is room.
-const EVENTS: usize = 1536;
-
 // Memory for one host, with twice as much for letters as it needs.
 #[derive(Drop)]
-struct Room<const PAGES: usize> {
-    pages: [[u64; 64]; PAGES],
-    touched: [bool; PAGES],
-    row: [[u64; 72]; 128],
-    kept: [[u64; 72]; 256],
+pub struct Room<const PAGES: usize> {
+    pub pages: [[u64; 64]; PAGES],
+    pub touched: [bool; PAGES],
+    pub row: [[u64; 72]; 128],
+    pub kept: [[u64; 72]; 256],
+}
+
+// Memory for two hosts and a guest with up to so many pages, and for all that is told of a round: it has 512 asks, and of each are told
+// three things at most. `empty_memory!` makes it.
+#[derive(Drop)]
+pub struct Memory<const PAGES: usize> {
+    pub zero: Room<PAGES>,
+    pub one: Room<PAGES>,
+    pub truth: [[u64; 64]; PAGES],
+    pub events: [Event; 1536],
+}
+
+pub const NOTHING: Event = Event {
+    what: What::Stop,
+    host: Who::Zero,
+};
+
+// A `Memory` of so many pages, made where it is to stand. What a function gives is copied, and a stack has no room for two of 4,096 pages.
+#[macro_export]
+macro_rules! empty_memory {
+    ($pages:expr) => {
+        $crate::memory::Memory {
+            zero: $crate::memory::Room {
+                pages: [[0; 64]; $pages],
+                touched: [false; $pages],
+                row: [[0; 72]; 128],
+                kept: [[0; 72]; 256],
+            },
+            one: $crate::memory::Room {
+                pages: [[0; 64]; $pages],
+                touched: [false; $pages],
+                row: [[0; 72]; 128],
+                kept: [[0; 72]; 256],
+            },
+            truth: [[0; 64]; $pages],
+            events: [$crate::memory::NOTHING; 1536],
+        }
+    };
 }
 
 impl<const PAGES: usize> Room<PAGES> {
-    fn new() -> Room<PAGES> {
-        Room {
-            pages: [[0; 64]; PAGES],
-            touched: [false; PAGES],
-            row: [[0; 72]; 128],
-            kept: [[0; 72]; 256],
-        }
-    }
-
     fn lend(&mut self) -> Lent<'_>
         ensures pages { (length result.pages.now ≡ PAGES) × (length result.touched.now ≡ PAGES) }
         ensures letters { (length result.row.now ≡ 128) × (length result.kept.now ≡ 256) }
@@ -47,29 +73,7 @@ impl<const PAGES: usize> Room<PAGES> {
     }
 }
 
-// Memory for two hosts and a guest with so many pages, and for what is told of them.
-#[derive(Drop)]
-pub struct Memory<const PAGES: usize> {
-    zero: Room<PAGES>,
-    one: Room<PAGES>,
-    truth: [[u64; 64]; PAGES],
-    events: [Event; EVENTS],
-}
-
 impl<const PAGES: usize> Memory<PAGES> {
-    pub fn new() -> Memory<PAGES> {
-        let nothing = Event {
-            what: What::Stop,
-            host: Who::Zero,
-        };
-        Memory {
-            zero: Room::new(),
-            one: Room::new(),
-            truth: [[0; 64]; PAGES],
-            events: [nothing; EVENTS],
-        }
-    }
-
     // Two hosts in it, and a guest with so many pages.
     pub fn hosts(&mut self, pages: u32) -> Result<Hosts<'_>, Refused>
         ensures made { MatchResult result (λ h. Made pages 1536 h) (λ e. Some e ≡ refusal_of pages PAGES 128 256) }
