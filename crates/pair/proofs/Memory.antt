@@ -6,10 +6,11 @@ use Rattle.std.proofs.lemmas.Bool.{cases_eq, cases_lt, eq-eqb, ne_eqb, lt-ltb, l
 use Rattle.std.proofs.lemmas.List.{get_or_past, get_or-take, length-take}
 use Rattle.std.proofs.lemmas.Bool.Decides.{nat_tests}
 use Rattle.moving.specs.Hosts.{Host, World, put}
-use Rattle.side.specs.declared.Who.{Who}
-use Rattle.side.specs.declared.Who.TheVariants.{Zero, One}
+use Rattle.who.specs.declared.Who.{Who}
+use Rattle.who.specs.declared.Who.TheVariants.{Zero, One}
+use Rattle.who.specs.Numbers.{numb}
 use Rattle.side.specs.declared.Side.{Side}
-use Rattle.side.specs.Sides.{numb, blank, size_of, host, Fresh}
+use Rattle.side.specs.Sides.{blank, size_of, host, Fresh}
 use Rattle.side.proofs.Sizes.{size_pages}
 use Rattle.pair.specs.declared.Pair.{Pair}
 use Rattle.pair.specs.Worlds.{nobody, both, room, world_of, with_truth, up_to}

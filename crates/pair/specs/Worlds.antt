@@ -1,10 +1,24 @@
 -- What two hosts in memory and their guest are, as a world.
 -- Assumes nothing.
-use Rattle.std.specs.Prelude.{◌≡◌, ℕ, ◌+◌, ◌<◌, min, Bool, true, false, cond, not, ◌&&◌, List, [], ◌∷◌, length, take, replicate, ◌==◌, nat_lt, slice_index_or}
-use Rattle.moving.specs.Hosts.{Host, World, host_of, put, Among, taken, head_is, rest', with_host, with_guest, with_link, me, Fallen, with_turn, good}
+use Rattle.std.specs.Prelude.{◌≡◌, ℕ, ◌+◌, ◌<◌, min, Bool, true, false, cond, not, ◌&&◌, List, [], ◌∷◌, length, take, replicate, ◌==◌, nat_lt, Option, slice_get, slice_index_or}
+use Rattle.moving.specs.Hosts.{Host, World, host_of, put, Among, taken, rest', with_host, with_guest, with_link, me, Fallen, with_turn, good}
+use Rattle.who.specs.declared.Who.{Who}
+use Rattle.who.specs.declared.Who.TheVariants.{Zero, One}
+use Rattle.who.specs.Numbers.{numb}
 use Rattle.side.specs.declared.Mix.{Mix}
-use Rattle.side.specs.Sides.{numb, blank, size_of, host, remembered, roughened}
+use Rattle.side.specs.declared.Side.{Side}
+use Rattle.side.specs.Sides.{blank, size_of, host, remembered, roughened}
 use Rattle.pair.specs.declared.Pair.{Pair}
+
+-- A host of the two.
+abbrev pub side_of : Who → Pair → Side
+side_of Zero h = h.zero
+side_of One h = h.one
+
+-- That host is another.
+abbrev pub with_side : Who → Pair → Side → Pair
+with_side Zero h s = record h { zero = s }
+with_side One h s = record h { one = s }
 
 -- A host that isn't there.
 abbrev pub nobody : Host
@@ -46,9 +60,9 @@ pub record PostedIn (lost keep : Bool) (i : ℕ) (w : World) (l : List ℕ) (r :
   pub takes : lost ≡ false → 0 < w.pages → r ≡ true
   pub keeps : 0 < w.pages → o ≡ cond keep (remembered (w.host i).old l) (w.host i).old
 
--- The first letter that waits for host i is taken off; r: there was one.
-pub record NextIn (i : ℕ) (w : World) (r : Bool) (l : List ℕ) (v : World) : Type 0 where
-  pub first : head_is (w.host i).row r l
+-- The first letter that waits for host i is taken off, and handed over, if there is one.
+pub record NextIn (i : ℕ) (w : World) (r : Option (List ℕ)) (v : World) : Type 0 where
+  pub first : r ≡ slice_get (w.host i).row 0
   pub is : v ≡ with_link i (rest' (w.host i).row) (w.host i).old w
 
 -- The line is rough with the letters that wait for host i.

@@ -1,13 +1,17 @@
 // Two hosts in memory and the guest that runs on one of them or on none: each thing that can be done to them, and nothing done unasked.
 #![tactic(auto)]
 
-ghost use Rattle.std.specs.Prelude.{◌≡◌, ℕ, ◌+◌, ◌-◌, ◌%◌, ◌<◌, ◌≤◌, min, Bool, true, false, ltb, List, [], length, if◌then◌else◌, nat_lt, slice_index_or};
+ghost use Rattle.std.specs.Prelude.{◌≡◌, ℕ, ◌+◌, ◌-◌, ◌%◌, ◌<◌, ◌≤◌, min, Bool, true, false, ltb, List, [], length, if◌then◌else◌, nat_lt, is_some, option_copied, slice_get};
 ghost use mathlib.Core.List.{Memᴰ};
 ghost use Rattle.moving.specs.Hosts.{World, kept, heard, put_page, untouched, stopped, resumed, counted, AtStart, InTime, wrote, me, other, seated, renewed, roughened};
-ghost use Rattle.side.specs.Sides.{numb, size_of, Fresh};
-ghost use Rattle.pair.specs.Worlds.{room, world_of, DroppedWith, FallenWith, PostedIn, NextIn, mixed_in, saved, wished, closed};
+ghost use Rattle.std.specs.Fn.{FnOnceTakesAtMut, FnOnceReturnsAtMut};
+ghost use Rattle.side.specs.declared.Side.{Side};
+ghost use Rattle.who.specs.Numbers.{numb};
+ghost use Rattle.side.specs.Sides.{size_of, Fresh};
+ghost use Rattle.pair.specs.Worlds.{side_of, with_side, room, world_of, DroppedWith, FallenWith, PostedIn, NextIn, mixed_in, saved, wished, closed};
 
-use side::{Mix, Side, Who};
+use side::{Mix, Post, Side, Wreck};
+use who::Who;
 
 #[derive(Drop)]
 pub struct Pair<'a> {
@@ -41,6 +45,15 @@ fn counts(good: bool, n: u32) -> u32
     ensures { result ≡ (if good then min (n + 1) 4294967295 else 0) }
 {
     if good { n.saturating_add(1) } else { 0 }
+}
+
+fn other(who: Who) -> Who
+    ensures { numb result ≡ 1 - numb who }
+{
+    match who {
+        Who::Zero => Who::One,
+        Who::One => Who::Zero,
+    }
 }
 
 impl<'a> Pair<'a> {
@@ -88,6 +101,27 @@ impl<'a> Pair<'a> {
         self.still < 32 && (self.calm as u64) < 256 + 8 * (self.count() as u64)
     }
 
+    // What is done to a host.
+    fn at<R, F: FnOnce(&mut Side<'a>) -> R>(&mut self, who: Who, f: F) -> R
+        requires { FnOnceTakesAtMut F.FnOnce f (side_of who self.old) }
+        ensures { (s : Side) × FnOnceReturnsAtMut F.FnOnce f (side_of who self.old) result s × (self.new ≡ with_side who self.old s) }
+    {
+        match who {
+            Who::Zero => f(&mut self.zero),
+            Who::One => f(&mut self.one),
+        }
+    }
+
+    // A host, to be read.
+    fn side(&self, who: Who) -> &Side<'a>
+        ensures { result.now ≡ side_of who self.now }
+    {
+        match who {
+            Who::Zero => &self.zero,
+            Who::One => &self.one,
+        }
+    }
+
     // One ask less is left.
     pub fn ask(&mut self)
         requires { 0 < (world_of self.old).left }
@@ -100,20 +134,14 @@ impl<'a> Pair<'a> {
         requires { c < 64 }
         ensures { world_of self.new ≡ kept c x (world_of self.old) }
     {
-        match self.turn {
-            Who::Zero => self.zero.keep(c, x),
-            Who::One => self.one.keep(c, x),
-        }
+        self.at(self.turn, |side| side.keep(c, x))
     }
 
     pub fn cell(&self, c: usize) -> u64
         requires { c < 64 }
         ensures { result ≡ (me (world_of self.now)).cell c }
     {
-        match self.turn {
-            Who::Zero => self.zero.cell(c),
-            Who::One => self.one.cell(c),
-        }
+        self.side(self.turn).cell(c)
     }
 
     // Whether the host was told to move its guest, which it is told once.
@@ -121,30 +149,21 @@ impl<'a> Pair<'a> {
         ensures after { world_of self.new ≡ heard (world_of self.old) }
         ensures value { result ≡ (me (world_of self.old)).told }
     {
-        match self.turn {
-            Who::Zero => self.zero.hear(),
-            Who::One => self.one.hear(),
-        }
+        self.at(self.turn, |side| side.hear())
     }
 
-    pub fn put(&mut self, p: usize, words: &[u64])
-        requires { (p < room self.old) × (length words.now ≡ 64) }
+    pub fn put(&mut self, p: usize, words: &[u64; 64])
+        requires { p < room self.old }
         ensures { world_of self.new ≡ put_page p words.now (world_of self.old) }
     {
-        match self.turn {
-            Who::Zero => self.zero.put(p, words),
-            Who::One => self.one.put(p, words),
-        }
+        self.at(self.turn, |side| side.put(p, words))
     }
 
-    pub fn page(&self, p: usize, into: &mut [u64])
-        requires { (p < room self.now) × (length into.old ≡ 64) }
-        ensures { into.new ≡ (me (world_of self.now)).page p }
+    pub fn page(&self, p: usize) -> &[u64; 64]
+        requires { p < room self.now }
+        ensures { result.now ≡ (me (world_of self.now)).page p }
     {
-        match self.turn {
-            Who::Zero => self.zero.page(p, into),
-            Who::One => self.one.page(p, into),
-        }
+        self.side(self.turn).page(p)
     }
 
     // Whether a page was written since this was last asked.
@@ -153,18 +172,15 @@ impl<'a> Pair<'a> {
         ensures after { world_of self.new ≡ untouched p (world_of self.old) }
         ensures value { result ≡ (me (world_of self.old)).touched p }
     {
-        match self.turn {
-            Who::Zero => self.zero.untouch(p),
-            Who::One => self.one.untouch(p),
-        }
+        self.at(self.turn, |side| side.untouch(p))
     }
 
     // The host whose turn it is falls.
-    pub fn fall(&mut self, x: u64, b: bool)
-        ensures { FallenWith x b (world_of self.old) (world_of self.new) }
+    pub fn fall(&mut self, wreck: Wreck)
+        ensures { FallenWith wreck.word wreck.touched (world_of self.old) (world_of self.new) }
     {
-        self.drop_pages(x, b);
-        let here = self.last.is(self.turn);
+        self.drop_pages(wreck);
+        let here = self.last == self.turn;
         self.lost = self.lost | (self.runs & here);
         self.runs = self.runs & !here;
         self.hurt = self.hurt | here;
@@ -172,32 +188,18 @@ impl<'a> Pair<'a> {
         self.rough = true;
     }
 
-    fn drop_pages(&mut self, x: u64, b: bool)
-        ensures { DroppedWith x b (world_of self.old) (world_of self.new) }
+    fn drop_pages(&mut self, wreck: Wreck)
+        ensures { DroppedWith wreck.word wreck.touched (world_of self.old) (world_of self.new) }
     {
-        match self.turn {
-            Who::Zero => self.zero.fall(x, b),
-            Who::One => self.one.fall(x, b),
-        }
+        self.at(self.turn, |side| side.fall(wreck))
     }
 
-    // A page where the guest ran last.
-    fn guest_page(&self, p: usize, into: &mut [u64])
-        requires { (p < room self.now) × (length into.old ≡ 64) }
-        ensures { into.new ≡ ((world_of self.now).host (world_of self.now).last).page p }
-    {
-        match self.last {
-            Who::Zero => self.zero.page(p, into),
-            Who::One => self.one.page(p, into),
-        }
-    }
-
+    // A page of the guest's memory becomes what it is where the guest ran last.
     fn save(&mut self, p: usize)
         requires { p < room self.old }
         ensures { world_of self.new ≡ saved p (world_of self.old) }
     {
-        let mut words = [0u64; 64];
-        self.guest_page(p, &mut words);
+        let words = *self.side(self.last).page(p);
         self.truth[p] = words;
     }
 
@@ -219,43 +221,31 @@ impl<'a> Pair<'a> {
     {
         self.keep(0, x);
         self.runs = true;
-        self.wish = self.wish & self.last.is(self.turn);
+        self.wish = self.wish & (self.last == self.turn);
         self.last = self.turn;
         self.hurt = false;
     }
 
     // A letter to the other host. False: it was lost.
-    pub fn post(&mut self, letter: &[u64], lost: bool, keeps: bool) -> bool
-        requires { length letter.now ≡ 72 }
-        ensures { PostedIn lost keeps (other (world_of self.old)) (world_of self.old) letter.now result (world_of self.new) }
+    pub fn post(&mut self, letter: &[u64; 72], post: Post) -> bool
+        ensures { PostedIn post.lost post.kept (other (world_of self.old)) (world_of self.old) letter.now result (world_of self.new) }
     {
-        match self.turn {
-            Who::Zero => self.one.post(letter, lost, keeps),
-            Who::One => self.zero.post(letter, lost, keeps),
-        }
+        self.at(other(self.turn), |side| side.post(letter, post))
     }
 
-    // The first letter that waits for the host whose turn it is.
-    pub fn next(&mut self, into: &mut [u64]) -> bool
-        requires { length into.old ≡ 72 }
-        ensures { NextIn (world_of self.old).turn (world_of self.old) result into.new (world_of self.new) }
+    // The first letter that waits for the host whose turn it is, which is taken off.
+    pub fn next(&mut self) -> Option<[u64; 72]>
+        ensures { NextIn (world_of self.old).turn (world_of self.old) result (world_of self.new) }
     {
-        match self.turn {
-            Who::Zero => self.zero.next(into),
-            Who::One => self.one.next(into),
-        }
+        self.at(self.turn, |side| side.next())
     }
 
-    // The letter that is kept for it at place i, counted round from the oldest; false where none is.
-    pub fn again(&self, i: usize, into: &mut [u64]) -> bool
-        requires { length into.old ≡ 72 }
-        ensures some { result ≡ nat_lt 0 (length (me (world_of self.now)).old) }
-        ensures letter { result ≡ true → into.new ≡ slice_index_or (me (world_of self.now)).old (i % length (me (world_of self.now)).old) [] }
+    // The letter that is kept for it at place i, counted round from the oldest.
+    pub fn again(&self, i: usize) -> Option<&[u64; 72]>
+        ensures some { is_some result ≡ nat_lt 0 (length (me (world_of self.now)).old) }
+        ensures letter { option_copied result ≡ slice_get (me (world_of self.now)).old (i % length (me (world_of self.now)).old) }
     {
-        match self.turn {
-            Who::Zero => self.zero.again(i, into),
-            Who::One => self.one.again(i, into),
-        }
+        self.side(self.turn).again(i)
     }
 
     // Whether a letter is kept for host 1.
@@ -269,10 +259,7 @@ impl<'a> Pair<'a> {
     pub fn mix(&mut self, how: Mix, i: usize)
         ensures { world_of self.new ≡ mixed_in how i (world_of self.old).turn (world_of self.old) }
     {
-        match self.turn {
-            Who::Zero => self.zero.mix(how, i),
-            Who::One => self.one.mix(how, i),
-        }
+        self.at(self.turn, |side| side.mix(how, i))
     }
 
     // The line was rough.
@@ -283,15 +270,12 @@ impl<'a> Pair<'a> {
     }
 
     // The guest writes a page where it runs.
-    pub fn write(&mut self, p: usize, words: &[u64])
-        requires { (p < room self.old) × (length words.now ≡ 64) }
+    pub fn write(&mut self, p: usize, words: &[u64; 64])
+        requires { p < room self.old }
         ensures { world_of self.new ≡ wrote p words.now (world_of self.old) }
     {
         self.busy = busier(self.busy);
-        match self.last {
-            Who::Zero => self.zero.write(p, words),
-            Who::One => self.one.write(p, words),
-        }
+        self.at(self.last, |side| side.write(p, words))
     }
 
     // Somebody wants it to be moved.
@@ -299,10 +283,7 @@ impl<'a> Pair<'a> {
         ensures { world_of self.new ≡ wished (world_of self.old) }
     {
         self.wish = true;
-        match self.last {
-            Who::Zero => self.zero.tell(),
-            Who::One => self.one.tell(),
-        }
+        self.at(self.last, |side| side.tell())
     }
 
     // It is that host's turn.

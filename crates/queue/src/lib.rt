@@ -1,8 +1,8 @@
 // A queue of letters, 72 words each, in memory that is lent to it.
 #![tactic(auto)]
 
-ghost use Rattle.std.specs.Prelude.{◌≡◌, ℕ, ◌+◌, ◌<◌, ◌≤◌, Bool, true, false, cond, List, [], ◌∷◌, ◌++◌, length, take, drop, nat_lt, slice_index_or, slice_set};
-ghost use Rattle.moving.specs.Hosts.{head_is, rest'};
+ghost use Rattle.std.specs.Prelude.{◌≡◌, ℕ, ◌+◌, ◌<◌, ◌≤◌, Bool, true, false, cond, List, [], ◌∷◌, ◌++◌, length, take, drop, is_ok, option_copied, slice_get, slice_set};
+ghost use Rattle.moving.specs.Hosts.{rest'};
 ghost use Rattle.queue.specs.Queues.{letters_of, room_of, Pushed};
 
 // The letters stand in `slots` from `head` on. A letter is taken off by moving `head`, so that only every so often all are shifted to the front.
@@ -13,33 +13,13 @@ pub struct Queue<'a> {
     count: usize,
 }
 
-fn file(all: &mut [[u64; 72]], i: usize, letter: &[u64])
-    requires { (i < length all.old) × (length letter.now ≡ 72) }
-    ensures { all.new ≡ slice_set all.old i letter.now }
-{
-    all[i].copy_from_slice(letter);
-}
-
-fn read(all: &[[u64; 72]], i: usize, into: &mut [u64])
-    requires { (i < length all.now) × (length into.old ≡ 72) }
-    ensures { into.new ≡ slice_index_or all.now i [] }
-{
-    into.copy_from_slice(&all[i]);
-}
-
-// The n letters from head on come to the front.
-fn shift(all: &mut [[u64; 72]], head: usize, n: usize)
-    requires { head + n ≤ length all.old }
-    ensures { take n all.new ≡ take n (drop head all.old) }
-{
-    for i in 0..n {
-        let letter = all[head + i];
-        all[i] = letter;
-    }
-}
+// There is no room for one letter more.
+#[derive(Clone, Copy, Debug, PartialEq, Eq)]
+pub struct Full;
 
 impl<'a> Queue<'a> {
     // An empty queue.
+    #[tactic(auto, unfolding(crate::specs::Queues::letters_of))]
     pub fn new(slots: &'a mut [[u64; 72]]) -> Queue<'a>
         ensures letters { letters_of result ≡ [] }
         ensures room { room_of result ≡ length slots.old }
@@ -59,6 +39,7 @@ impl<'a> Queue<'a> {
     }
 
     // How many letters wait.
+    #[tactic(auto, using(crate::proofs::Rows::row_length), unfolding(crate::specs::Queues::letters_of))]
     pub fn len(&self) -> usize
         ensures { result ≡ length (letters_of self.now) }
     {
@@ -66,57 +47,49 @@ impl<'a> Queue<'a> {
         self.count.min(rest)
     }
 
-    // A letter at the end; false, and nothing has changed, where there is no room.
-    pub fn push(&mut self, letter: &[u64]) -> bool
-        requires { length letter.now ≡ 72 }
-        ensures { Pushed self.old letter.now result self.new }
+    // A letter at the end, if there is room for it.
+    pub fn push(&mut self, letter: &[u64; 72]) -> Result<(), Full>
+        ensures { Pushed self.old letter.now (is_ok result) self.new }
     {
         let n = self.len();
-        let room = self.slots.len();
-        if n >= room {
-            return false;
+        if n >= self.slots.len() {
+            return Err(Full);
         }
         self.gather(n);
         let at = self.head + n;
-        file(self.slots, at, letter);
+        self.slots[at] = *letter;
         self.count = n + 1;
-        true
+        Ok(())
     }
 
     // The same letters, with room behind them.
+    #[tactic(auto, using(crate::proofs::Rows::row_length, crate::proofs::Rows::row_again, crate::proofs::Rows::row_moved), unfolding(crate::specs::Queues::letters_of))]
     fn gather(&mut self, n: usize)
         requires { (n ≡ length (letters_of self.old)) × (n < room_of self.old) }
         ensures letters { take n (drop self.new.head self.new.slots.now) ≡ letters_of self.old }
         ensures room { (room_of self.new ≡ room_of self.old) × (self.new.head + n < room_of self.new) }
     {
-        let h = self.head;
-        if n < self.slots.len().saturating_sub(h) {
+        let h = self.head.min(self.slots.len());
+        if h + n < self.slots.len() {
             return;
         }
-        if n == 0 {
-            self.head = 0;
-            return;
-        }
-        shift(self.slots, h, n);
+        self.slots.copy_within(h..h + n, 0);
         self.head = 0;
     }
 
-    // The first letter, which is taken off; false where there is none, and then `into` is as it was.
-    pub fn pop(&mut self, into: &mut [u64]) -> bool
-        requires { length into.old ≡ 72 }
-        ensures first { head_is (letters_of self.old) result into.new }
+    // The first letter, which is taken off.
+    pub fn pop(&mut self) -> Option<[u64; 72]>
+        ensures first { result ≡ slice_get (letters_of self.old) 0 }
         ensures rest { letters_of self.new ≡ rest' (letters_of self.old) }
         ensures room { room_of self.new ≡ room_of self.old }
-        ensures same { result ≡ false → into.new ≡ into.old }
     {
-        if !self.get(0, into) {
-            return false;
-        }
+        let letter = self.get(0).copied();
         self.drop_first();
-        true
+        letter
     }
 
     // Without its first letter.
+    #[tactic(auto, using(crate::proofs::Rows::row_length, crate::proofs::Rows::row_rest, crate::proofs::Rows::none_rest), unfolding(crate::specs::Queues::letters_of))]
     pub fn drop_first(&mut self)
         ensures rest { letters_of self.new ≡ rest' (letters_of self.old) }
         ensures room { room_of self.new ≡ room_of self.old }
@@ -128,24 +101,21 @@ impl<'a> Queue<'a> {
         self.count -= 1;
     }
 
-    // The letter at place i; false where there is none, and then `into` is as it was.
-    pub fn get(&self, i: usize, into: &mut [u64]) -> bool
-        requires { length into.old ≡ 72 }
-        ensures is { result ≡ nat_lt i (length (letters_of self.now)) }
-        ensures letter { result ≡ true → into.new ≡ slice_index_or (letters_of self.now) i [] }
-        ensures same { result ≡ false → into.new ≡ into.old }
+    // The letter at place i.
+    #[tactic(auto, using(crate::proofs::Rows::row_length), unfolding(crate::specs::Queues::letters_of))]
+    pub fn get(&self, i: usize) -> Option<&[u64; 72]>
+        ensures { option_copied result ≡ slice_get (letters_of self.now) i }
     {
         if i >= self.len() {
-            return false;
+            return None;
         }
         let all = &*self.slots;
-        read(all, self.head + i, into);
-        true
+        Some(&all[self.head + i])
     }
 
     // Another letter stands at place i, if there is such a place.
-    pub fn replace(&mut self, i: usize, letter: &[u64])
-        requires { length letter.now ≡ 72 }
+    #[tactic(auto, using(crate::proofs::Rows::row_length, crate::proofs::Rows::row_set), unfolding(crate::specs::Queues::letters_of))]
+    pub fn replace(&mut self, i: usize, letter: &[u64; 72])
         ensures letters { letters_of self.new ≡ slice_set (letters_of self.old) i letter.now }
         ensures room { room_of self.new ≡ room_of self.old }
     {
@@ -153,6 +123,6 @@ impl<'a> Queue<'a> {
             return;
         }
         let at = self.head + i;
-        file(self.slots, at, letter);
+        self.slots[at] = *letter;
     }
 }

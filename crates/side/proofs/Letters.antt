@@ -1,13 +1,15 @@
 -- Letters that wait, and those that are kept.
 -- Assumes nothing.
-use Rattle.std.proofs.Common.{◌≡◌, ℕ, zero, suc, ◌-◌, ◌%◌, ◌<◌, ◌≤◌, Bool, true, false, cond, eqb, ltb, ◌⊎◌, List, [], ◌∷◌, ◌++◌, length, get_or, set, sym, refl, ap, subst, inl, inr, mod-lt, arith, length-set}
+use Rattle.std.proofs.Common.{◌≡◌, ℕ, zero, suc, ◌-◌, ◌%◌, ◌<◌, ◌≤◌, Bool, true, false, cond, eqb, ltb, ◌⊎◌, List, [], ◌∷◌, ◌++◌, length, get_or, set, sym, refl, ap, ◌∙◌, subst, inl, inr, mod-lt, arith, length-set}
 use mathlib.Core.List.Memᴰ
 use mathlib.Core.List.{Memᴰ}
 use Rattle.std.proofs.lemmas.Bool.{lt-ltb, le-ltb, eqb-false, cond-true, cond-false, cond_both}
 use Rattle.moving.specs.Hosts.{Among, taken, rest'}
 use Rattle.side.specs.declared.Mix.{Mix}
 use Rattle.side.specs.declared.Mix.TheVariants.{Still, First, Swap, Double}
-use Rattle.side.specs.Sides.{remembered, mixed, roughened}
+use Rattle.queue.specs.declared.Queue.{Queue}
+use Rattle.queue.specs.Queues.{letters_of, room_of, Pushed}
+use Rattle.side.specs.Sides.{remembered, mixed, roughened, Remembers}
 
 pub taken_more : (r : List (List ℕ)) (l : List ℕ) → length r < 64 → taken r l ≡ r ++ l ∷ []
 taken_more r l h = cond-true (ltb (length r) 64) (r ++ l ∷ []) r (lt-ltb (length r) 64 h)
@@ -86,3 +88,13 @@ roughened_among m i xs =
 pub roughened_length : (m : Mix) (i : ℕ) (xs : List (List ℕ)) → length (roughened m i xs) ≤ length xs
 roughened_length m i xs =
     cond_both (eqb (length xs) 0) xs (mixed m (i % length xs) xs) (λ ys. length ys ≤ length xs) (λ _. omega arith) (λ _. mixed_length m (i % length xs) xs)
+
+-- a letter is kept behind those of m, which are those of q, or those but the first
+pub remembers : (q m s : Queue) (l : List ℕ) (r : Bool) → Among (letters_of m) (letters_of q) → room_of m ≡ room_of q → (128 ≤ room_of q → length (letters_of m) < room_of m) →
+    letters_of m ++ l ∷ [] ≡ remembered (letters_of q) l → Pushed m l r s → Remembers q l s
+remembers q m s l r a e short is p =
+    record {
+      among = among_push r (letters_of q) (letters_of m) (letters_of s) l a p.letters;
+      room = p.room ∙ e;
+      is = λ big. p.letters ∙ ap (λ b. cond b (letters_of m ++ l ∷ []) (letters_of m)) (p.takes (short big)) ∙ is;
+    }

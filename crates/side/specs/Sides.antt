@@ -1,19 +1,12 @@
 -- What one host in memory is, as a host of the world.
 -- Assumes nothing.
-use Rattle.std.specs.Prelude.{◌≡◌, ℕ, ◌-◌, ◌*◌, ◌%◌, ◌<◌, ◌≤◌, min, Bool, true, false, cond, List, [], ◌∷◌, ◌++◌, length, get_or, take, replicate, ◌==◌, nat_lt, slice_index, slice_index_or, slice_set}
-use Rattle.moving.specs.Hosts.{Host, host_of, put, Among, taken, head_is, rest'}
+use Rattle.std.specs.Prelude.{◌≡◌, ℕ, ◌-◌, ◌*◌, ◌%◌, ◌<◌, ◌≤◌, min, Bool, true, false, cond, List, [], ◌∷◌, ◌++◌, length, get_or, take, replicate, ◌==◌, nat_lt, Option, slice_get, slice_index, slice_index_or, slice_set}
+use Rattle.moving.specs.Hosts.{Host, host_of, put, Among, taken, rest'}
 use Rattle.queue.specs.Queues.{letters_of, room_of}
 use Rattle.queue.specs.declared.Queue.{Queue}
-use Rattle.side.specs.declared.Who.{Who}
-use Rattle.side.specs.declared.Who.TheVariants.{Zero, One}
 use Rattle.side.specs.declared.Mix.{Mix}
 use Rattle.side.specs.declared.Mix.TheVariants.{Still, First, Swap, Double}
 use Rattle.side.specs.declared.Side.{Side}
-
--- A host's number.
-abbrev pub numb : Who → ℕ
-numb Zero = 0
-numb One = 1
 
 -- A page of noughts.
 abbrev pub blank : List ℕ
@@ -89,9 +82,9 @@ pub record Posted (lost keep : Bool) (s : Side) (l : List ℕ) (r : Bool) (t : S
   pub takes : lost ≡ false → 0 < size_of s → r ≡ true
   pub keeps : 0 < size_of s → letters_of t.kept ≡ cond keep (remembered (letters_of s.kept) l) (letters_of s.kept)
 
--- The first letter of the row is taken off, if there is one.
-pub record Nexts (s : Side) (r : Bool) (l : List ℕ) (t : Side) : Type 0 where
-  pub first : head_is (letters_of s.row) r l
+-- The first letter of the row is taken off, and handed over, if there is one.
+pub record Nexts (s : Side) (r : Option (List ℕ)) (t : Side) : Type 0 where
+  pub first : r ≡ slice_get (letters_of s.row) 0
   pub link : Linked s (rest' (letters_of s.row)) (letters_of s.kept) t
 
 -- What the line makes of a row: nothing, its first letter is lost, the first changes places with the one at i, or the one at i becomes a copy of the first.

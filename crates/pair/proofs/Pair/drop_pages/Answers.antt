@@ -1,8 +1,14 @@
-use Rattle.pair.proofs.Sides.{zero_dropped, one_dropped}
+use Rattle.std.proofs.Common.{refl, rules, of_calls}
+use Rattle.side.specs.Sides.{Fell}
+use Rattle.pair.specs.Worlds.{side_of}
+use Rattle.pair.proofs.Sides.{dropped}
 use Rattle.pair.proofs.Pair.drop_pages.Goals as goal
 
-pub returns-in-Zero : goal.returns-in-Zero
-returns-in-Zero c = zero_dropped c.args.self.now _ _ _ c.in-Zero.is c.fall.ensures
-
-pub returns-in-One : goal.returns-in-One
-returns-in-One c = one_dropped c.args.self.now _ _ _ c.in-One.is c.fall-in-One.ensures
+pub returns : goal.returns
+returns c =
+    let h = c.args.self.now in
+    let e = c.at.ensures in
+    let m = e.1.met in
+    let x = c.args.wreck in
+    let t : Fell x.word x.touched (side_of h.turn h) e.0 = search (rules, of_calls) in
+    rw e.2 (dropped h h.turn x.word x.touched e.0 refl t)

@@ -1,21 +1,20 @@
-use Rattle.std.proofs.Common.{false, sym, ap, ◌∙◌, arith}
-use Rattle.side.specs.Sides.{numb, told_by}
-use Rattle.pair.specs.Worlds.{room, world_of}
-use Rattle.pair.proofs.Sides.{zero_turns, one_turns}
+use Rattle.std.proofs.Common.{◌≡◌, false, ap, ◌∙◌, arith, rules, of_calls}
+use Rattle.side.specs.Sides.{told_by, Turns}
+use Rattle.pair.specs.Worlds.{side_of, world_of}
+use Rattle.pair.proofs.Sides.{turns, host_is}
 use Rattle.pair.proofs.Pair.hear.Goals as goal
 
-pub returns-in-Zero : goal.returns-in-Zero
-returns-in-Zero c =
+pub returns-clause-after : goal.returns-clause-after
+returns-clause-after c =
     let h = c.args.self.now in
-    record {
-      after = zero_turns 0 h h.turn (told_by false) _ c.in-Zero.is c.hear.ensures.turns (omega arith);
-      value = c.hear.ensures.was (room h) ∙ ap (λ w. ((world_of h).host (numb w)).told) (sym c.in-Zero.is);
-    }
+    let e = c.at.ensures in
+    let m = e.1.met in
+    let t : Turns 0 (side_of h.turn h) (told_by false) e.0 = search (rules, of_calls) in
+    ap world_of e.2 ∙ turns 0 h h.turn (told_by false) e.0 t (omega arith)
 
-pub returns-in-One : goal.returns-in-One
-returns-in-One c =
+pub returns-clause-value : goal.returns-clause-value
+returns-clause-value c =
     let h = c.args.self.now in
-    record {
-      after = one_turns 0 h h.turn (told_by false) _ c.in-One.is c.hear-in-One.ensures.turns (omega arith);
-      value = c.hear-in-One.ensures.was (room h) ∙ ap (λ w. ((world_of h).host (numb w)).told) (sym c.in-One.is);
-    }
+    let m = c.at.ensures.1.met in
+    let t : c.at.result ≡ (side_of h.turn h).told = search (rules, of_calls) in
+    t ∙ ap (λ x. x.told) (host_is h h.turn)

@@ -1,10 +1,13 @@
-use Rattle.std.proofs.Common.{arith}
-use Rattle.side.specs.Sides.{kept_by}
-use Rattle.pair.proofs.Sides.{zero_turns, one_turns}
+use Rattle.std.proofs.Common.{ap, ◌∙◌, arith, rules, of_calls}
+use Rattle.side.specs.Sides.{kept_by, Turns}
+use Rattle.pair.specs.Worlds.{side_of, world_of}
+use Rattle.pair.proofs.Sides.{turns}
 use Rattle.pair.proofs.Pair.keep.Goals as goal
 
-pub returns-in-Zero : goal.returns-in-Zero
-returns-in-Zero c = zero_turns 0 c.args.self.now c.args.self.now.turn (kept_by c.args.c c.args.x) _ c.in-Zero.is c.keep.ensures (omega arith)
-
-pub returns-in-One : goal.returns-in-One
-returns-in-One c = one_turns 0 c.args.self.now c.args.self.now.turn (kept_by c.args.c c.args.x) _ c.in-One.is c.keep-in-One.ensures (omega arith)
+pub returns : goal.returns
+returns c =
+    let h = c.args.self.now in
+    let e = c.at.ensures in
+    let m = e.1.met in
+    let t : Turns 0 (side_of h.turn h) (kept_by c.args.c c.args.x) e.0 = search (rules, of_calls) in
+    ap world_of e.2 ∙ turns 0 h h.turn (kept_by c.args.c c.args.x) e.0 t (omega arith)

@@ -1,14 +1,15 @@
-use Rattle.std.proofs.Common.{arith}
-use Rattle.side.specs.Sides.{link_by, roughened}
-use Rattle.pair.proofs.Sides.{zero_turns, one_turns}
+use Rattle.std.proofs.Common.{ap, ◌∙◌, rules, of_calls}
+use Rattle.queue.specs.Queues.{letters_of}
+use Rattle.side.specs.Sides.{roughened, Linked}
+use Rattle.pair.specs.Worlds.{side_of, world_of}
+use Rattle.pair.proofs.Sides.{mixed}
 use Rattle.pair.proofs.Pair.mix.Goals as goal
 
-pub returns-in-Zero : goal.returns-in-Zero
-returns-in-Zero c =
+pub returns : goal.returns
+returns c =
     let h = c.args.self.now in
-    zero_turns 0 h h.turn (λ x. link_by (roughened c.args.how c.args.i x.row) x.old x) _ c.in-Zero.is (record { size = c.mix.ensures.size; is = λ n _ _. c.mix.ensures.is n }) (omega arith)
-
-pub returns-in-One : goal.returns-in-One
-returns-in-One c =
-    let h = c.args.self.now in
-    one_turns 0 h h.turn (λ x. link_by (roughened c.args.how c.args.i x.row) x.old x) _ c.in-One.is (record { size = c.mix-in-One.ensures.size; is = λ n _ _. c.mix-in-One.ensures.is n }) (omega arith)
+    let e = c.at.ensures in
+    let m = e.1.met in
+    let s = side_of h.turn h in
+    let t : Linked s (roughened c.args.how c.args.i (letters_of s.row)) (letters_of s.kept) e.0 = search (rules, of_calls) in
+    ap world_of e.2 ∙ mixed h h.turn c.args.how c.args.i e.0 t

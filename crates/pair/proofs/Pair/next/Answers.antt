@@ -1,8 +1,13 @@
-use Rattle.pair.proofs.Sides.{zero_next, one_next}
+use Rattle.std.proofs.Common.{rules, of_calls}
+use Rattle.side.specs.Sides.{Nexts}
+use Rattle.pair.specs.Worlds.{side_of}
+use Rattle.pair.proofs.Sides.{nexts}
 use Rattle.pair.proofs.Pair.next.Goals as goal
 
-pub returns-in-Zero : goal.returns-in-Zero
-returns-in-Zero c = zero_next c.args.self.now _ _ _ c.in-Zero.is c.next.ensures
-
-pub returns-in-One : goal.returns-in-One
-returns-in-One c = one_next c.args.self.now _ _ _ c.in-One.is c.next-in-One.ensures
+pub returns : goal.returns
+returns c =
+    let h = c.args.self.now in
+    let e = c.at.ensures in
+    let m = e.1.met in
+    let t : Nexts (side_of h.turn h) c.at.result e.0 = search (rules, of_calls) in
+    rw e.2 (nexts h h.turn c.at.result e.0 t)

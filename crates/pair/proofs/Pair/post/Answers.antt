@@ -1,8 +1,15 @@
-use Rattle.pair.proofs.Sides.{zero_posted, one_posted}
+use Rattle.std.proofs.Common.{rules, of_calls}
+use Rattle.side.specs.Sides.{Posted}
+use Rattle.pair.specs.Worlds.{side_of}
+use Rattle.pair.proofs.Sides.{posted}
 use Rattle.pair.proofs.Pair.post.Goals as goal
 
-pub returns-in-Zero : goal.returns-in-Zero
-returns-in-Zero c = one_posted c.args.self.now _ _ _ _ _ c.in-Zero.is c.post.ensures
-
-pub returns-in-One : goal.returns-in-One
-returns-in-One c = zero_posted c.args.self.now _ _ _ _ _ c.in-One.is c.post-in-One.ensures
+pub returns : goal.returns
+returns c =
+    let h = c.args.self.now in
+    let e = c.at.ensures in
+    let m = e.1.met in
+    let v = c.other.result in
+    let a = c.args.post in
+    let t : Posted a.lost a.kept (side_of v h) c.args.letter.now c.at.result e.0 = search (rules, of_calls) in
+    rw (e.2, ← c.other.ensures) (posted h v a.lost a.kept c.args.letter.now c.at.result e.0 t)

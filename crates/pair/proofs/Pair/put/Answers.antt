@@ -1,10 +1,14 @@
-use Rattle.std.proofs.Common.{◌+◌, arith}
-use Rattle.side.specs.Sides.{put_by}
-use Rattle.pair.proofs.Sides.{zero_turns, one_turns}
+use Rattle.std.proofs.Common.{◌+◌, ap, ◌∙◌, arith, rules, of_calls}
+use Rattle.side.specs.Sides.{put_by, Turns}
+use Rattle.pair.specs.Worlds.{side_of, world_of}
+use Rattle.pair.proofs.Sides.{turns}
 use Rattle.pair.proofs.Pair.put.Goals as goal
 
-pub returns-in-Zero : goal.returns-in-Zero
-returns-in-Zero c = zero_turns (c.args.p + 1) c.args.self.now c.args.self.now.turn (put_by c.args.p c.args.words.now) _ c.in-Zero.is c.put.ensures (omega arith)
-
-pub returns-in-One : goal.returns-in-One
-returns-in-One c = one_turns (c.args.p + 1) c.args.self.now c.args.self.now.turn (put_by c.args.p c.args.words.now) _ c.in-One.is c.put-in-One.ensures (omega arith)
+pub returns : goal.returns
+returns c =
+    let h = c.args.self.now in
+    let e = c.at.ensures in
+    let m = e.1.met in
+    let f = put_by c.args.p c.args.words.now in
+    let t : Turns (c.args.p + 1) (side_of h.turn h) f e.0 = search (rules, of_calls) in
+    ap world_of e.2 ∙ turns (c.args.p + 1) h h.turn f e.0 t (omega arith)

@@ -1,15 +1,14 @@
-use Rattle.std.proofs.Common.{true, ap, arith}
-use Rattle.moving.specs.Hosts.{with_guest}
-use Rattle.side.specs.Sides.{told_by}
-use Rattle.pair.proofs.Sides.{zero_turns, one_turns}
+use Rattle.std.proofs.Common.{true, ap, ◌∙◌, arith, rules, of_calls}
+use Rattle.side.specs.Sides.{told_by, Turns}
+use Rattle.pair.specs.declared.Pair.{Pair}
+use Rattle.pair.specs.Worlds.{side_of, world_of}
+use Rattle.pair.proofs.Sides.{turns}
 use Rattle.pair.proofs.Pair.want.Goals as goal
 
-pub returns-in-Zero : goal.returns-in-Zero
-returns-in-Zero c =
-    ap (λ w. with_guest w.runs w.last w.lost w.truth w.hurt true w)
-    (zero_turns 0 c.args.self.now c.args.self.now.last (told_by true) _ c.in-Zero.is c.tell.ensures (omega arith))
-
-pub returns-in-One : goal.returns-in-One
-returns-in-One c =
-    ap (λ w. with_guest w.runs w.last w.lost w.truth w.hurt true w)
-    (one_turns 0 c.args.self.now c.args.self.now.last (told_by true) _ c.in-One.is c.tell-in-One.ensures (omega arith))
+pub returns : goal.returns
+returns c =
+    let h : Pair = record c.args.self.now { wish = true } in
+    let e = c.at.ensures in
+    let m = e.1.met in
+    let t : Turns 0 (side_of h.last h) (told_by true) e.0 = search (rules, of_calls) in
+    ap world_of e.2 ∙ turns 0 h h.last (told_by true) e.0 t (omega arith)

@@ -1,19 +1,16 @@
-use Rattle.std.proofs.Common.{refl, arith}
-use Rattle.side.specs.Sides.{size_of}
-use Rattle.side.proofs.Puts.{zeros}
+use Rattle.std.proofs.Common.{false, refl, rules}
+use Rattle.std.proofs.lemmas.List.Elements.{same_from_all_zip}
+use Rattle.side.specs.Sides.{blank}
+use Rattle.side.proofs.Puts.{zeros, filled}
 use Rattle.side.proofs.Side.new.Goals as goal
 
-pub returns : goal.returns
-unfolding size_of
-returns c =
+pub returns-clause-fresh : goal.returns-clause-fresh
+returns-clause-fresh c =
     record {
-      fresh = record {
-        told = refl;
-        row = c.new.ensures.letters;
-        kept = c.new-2.ensures.letters;
-        cell = zeros 64;
-        page = c.fill.ensures;
-        touched = c.flag.ensures;
-      };
-      size = λ h k. omega (arith, c.fill.auto.all, c.flag.auto.all, c.new.ensures.room, c.new-2.ensures.room);
+      told = refl;
+      row = c.new.ensures.letters;
+      kept = c.new-2.ensures.letters;
+      cell = zeros 64;
+      page = filled c.fill.new.self _ _ blank (c.fill.ensures.after (λ y z. search (rules, same_from_all_zip, z.whole)));
+      touched = filled c.fill-2.new.self _ _ false (c.fill-2.ensures.after (λ y z. search rules));
     }

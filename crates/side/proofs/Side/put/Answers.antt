@@ -1,4 +1,4 @@
-use Rattle.std.proofs.Common.{get_or, take, ap, ◌∙◌, arith, rules}
+use Rattle.std.proofs.Common.{ap, arith, rules}
 use Rattle.moving.specs.Hosts.{host_of}
 use Rattle.side.specs.Sides.{size_of, blank, host}
 use Rattle.side.proofs.Puts.{taken_put}
@@ -12,9 +12,5 @@ returns c =
       size = search rules;
       is = λ n h le.
           ap (λ f. host_of f (host n s).touched (host n s).cell s.told (host n s).row (host n s).old)
-          (ap (λ l j. get_or (take n l) j blank) c.store.ensures ∙ taken_put blank n s.pages.now c.args.p c.args.words.now (omega arith) (omega arith));
+          (taken_put blank n s.pages.now c.args.p c.args.words.now (omega arith) (omega arith));
     }
-
-pub store-requires : goal.store-requires
-unfolding size_of
-store-requires c = search rules

@@ -14,15 +14,7 @@ returns c =
       size = search rules;
       is = λ n h le.
           ap (λ f. host_of f (λ j. get_or (take n (set s.touched.now p true)) j false) (host n s).cell s.told (host n s).row (host n s).old)
-          (ap (λ l j. get_or (take n l) j blank) c.store.ensures ∙ taken_put blank n s.pages.now p ws (omega arith) (omega arith))
+          (taken_put blank n s.pages.now p ws (omega arith) (omega arith))
           ∙ ap (λ f. host_of (put p ws (host n s).page) f (host n s).cell s.told (host n s).row (host n s).old)
           (taken_put false n s.touched.now p true (omega arith) (omega arith));
     }
-
-pub store-requires : goal.store-requires
-unfolding size_of
-store-requires c = search rules
-
-pub bounds-self-p : goal.bounds-self-p
-unfolding size_of
-bounds-self-p c = search rules
