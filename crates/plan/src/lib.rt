@@ -2,26 +2,35 @@
 // A plan says it: counts that its owner sets between rounds, and for random play a generator, whose word decides what comes with the next ask.
 #![tactic(auto)]
 
-ghost use Rattle.std.specs.Prelude.{◌≡◌, ℕ, ◌+◌, ◌-◌, ◌*◌, ◌/◌, ◌%◌, ◌<◌, ◌≤◌, Bool, true, false, cond};
-ghost use Rattle.plan.specs.Plans.{stepped, drawn_word, chance, falls_by, mix_by, hand_by, fate_of, asked, post_of, posted, hand_of, handed, wreck_of, write_of, wish_of, wished, page_by, writes_of, wrote, calm};
+ghost use Rattle.std.specs.Prelude.{◌≡◌, ℕ, ◌+◌, ◌-◌, ◌*◌, ◌/◌, ◌%◌, ◌<◌, ◌≤◌, Bool, true, false, cond, Option};
+ghost use Rattle.plan.specs.Plans.{stepped, drawn, part_of, roll_of, falls_by, less, mix_by, hand_by, fall_of, fate_of, asked, post_of, posted, hand_of, handed, wreck_of, write_of, wish_of, wished, page_by, writes_of, wrote, calm};
 
-use side::{Mix, Who};
+use side::{Mix, Post, Wreck};
+use who::Who;
+
+// Whether the generator decides too, and its word.
+#[derive(Clone, Copy, Debug, PartialEq, Eq)]
+pub struct Chance {
+    pub random: bool,
+    pub word: u64,
+}
 
 // A host falls over the n-th thing that it asks from here on, before or after that is done; 0: over none.
-#[derive(Clone, Copy)]
+// The count runs down to 0 and stays there, so 0 is its end, and an `Option` would have to become `None` by a rule of its own.
+#[derive(Clone, Copy, Debug, PartialEq, Eq)]
 pub struct Fall {
     pub ask: u32,
     pub after: bool,
 }
 
 // The guest fills a page with a word.
-#[derive(Clone, Copy)]
+#[derive(Clone, Copy, Debug, PartialEq, Eq)]
 pub struct Write {
     pub page: u32,
     pub word: u64,
 }
 
-#[derive(Clone, Copy)]
+#[derive(Clone, Copy, Debug, PartialEq, Eq)]
 pub struct Plan {
     pub zero: Fall,
     pub one: Fall,
@@ -32,40 +41,23 @@ pub struct Plan {
     // somebody wants the guest to be moved
     pub wish: bool,
     pub write: Option<Write>,
-    // whether the generator decides too
-    pub random: bool,
-    // its word
-    pub word: u64,
+    pub chance: Chance,
 }
 
 // What becomes of an ask.
-#[derive(Clone, Copy)]
+#[derive(Clone, Copy, Debug, PartialEq, Eq)]
 pub enum Fate {
     Stands,
     Before,
     After,
 }
 
-// What becomes of a letter that is sent.
-#[derive(Clone, Copy)]
-pub struct Post {
-    pub lost: bool,
-    pub kept: bool,
-}
-
 // What a host gets that asks for a letter: the next; one that is kept, at that place from the oldest on, counted round; or none, and those that wait are mixed up.
-#[derive(Clone, Copy)]
+#[derive(Clone, Copy, Debug, PartialEq, Eq)]
 pub enum Hand {
     Next,
     Again(u32),
     Mixed(Mix, u32),
-}
-
-// What the pages of a host hold that has fallen, and whether they count as written.
-#[derive(Clone, Copy)]
-pub struct Wreck {
-    pub word: u64,
-    pub touched: bool,
 }
 
 // The generator's next word.
@@ -76,46 +68,12 @@ fn step(x: u64) -> u64
         .wrapping_add(1442695040888963407)
 }
 
-fn draw(random: bool, x: u64) -> u64
-    ensures { result ≡ drawn_word random x }
-{
-    if random { step(x) } else { x }
-}
-
 // A part of the word: its upper half, divided by `by`, up to `of`.
 fn part(x: u64, by: u64, of: u64) -> u32
     requires { (0 < by) × ((0 < of) × (of ≤ 4096)) }
-    ensures { result ≡ chance by of x }
+    ensures { result ≡ part_of by of x }
 {
     (x / 4294967296 / by % of) as u32
-}
-
-fn falls(fall: Fall, random: bool, x: u64) -> Fate
-    ensures { result ≡ falls_by fall random x }
-{
-    if fall.ask == 1 {
-        if fall.after {
-            return Fate::After;
-        }
-        return Fate::Before;
-    }
-    if !random {
-        return Fate::Stands;
-    }
-    match part(x, 1, 4096) {
-        0 => Fate::Before,
-        1 => Fate::After,
-        _ => Fate::Stands,
-    }
-}
-
-fn less(fall: Fall) -> Fall
-    ensures { (result.ask ≡ fall.ask - 1) × (result.after ≡ fall.after) }
-{
-    Fall {
-        ask: fall.ask.saturating_sub(1),
-        after: fall.after,
-    }
 }
 
 fn mix(x: u64) -> Mix
@@ -129,33 +87,81 @@ fn mix(x: u64) -> Mix
     }
 }
 
-fn comes(random: bool, x: u64) -> Hand
-    ensures { result ≡ hand_by random x }
-{
-    if !random {
-        return Hand::Next;
+impl Chance {
+    // In random play the generator goes on to its next word.
+    fn draw(self) -> Chance
+        ensures { result ≡ drawn self }
+    {
+        let word = if self.random {
+            step(self.word)
+        } else {
+            self.word
+        };
+        Chance {
+            random: self.random,
+            word,
+        }
     }
-    match part(x, 4096, 16) {
-        0 => Hand::Again(part(x, 1048576, 4096)),
-        1 => Hand::Mixed(mix(x), part(x, 1048576, 4096)),
-        _ => Hand::Next,
+
+    // What a part of the word says, in random play.
+    fn roll(self, by: u64, of: u64) -> Option<u32>
+        requires { (0 < by) × ((0 < of) × (of ≤ 4096)) }
+        ensures { result ≡ roll_of by of self }
+    {
+        self.random.then_some(part(self.word, by, of))
+    }
+
+    fn falls(self, fall: Fall) -> Fate
+        ensures { result ≡ falls_by fall self }
+    {
+        if fall.ask == 1 {
+            if fall.after {
+                return Fate::After;
+            }
+            return Fate::Before;
+        }
+        match self.roll(1, 4096) {
+            Some(0) => Fate::Before,
+            Some(1) => Fate::After,
+            _ => Fate::Stands,
+        }
+    }
+
+    fn comes(self) -> Hand
+        ensures { result ≡ hand_by self }
+    {
+        match self.roll(4096, 16) {
+            Some(0) => Hand::Again(part(self.word, 1048576, 4096)),
+            Some(1) => Hand::Mixed(mix(self.word), part(self.word, 1048576, 4096)),
+            _ => Hand::Next,
+        }
+    }
+
+    // The page that the guest fills, if it writes.
+    fn page(self, writes: bool, pages: u32) -> Option<Write>
+        ensures { result ≡ page_by writes self.word pages }
+    {
+        if !writes {
+            return None;
+        }
+        let page = part(self.word, 1048576, 4096).checked_rem(pages)?;
+        Some(Write {
+            page,
+            word: self.word,
+        })
     }
 }
 
-// The page that the guest fills, if it writes.
-fn page(writes: bool, x: u64, pages: u32) -> Option<Write>
-    ensures { result ≡ page_by writes x pages }
-{
-    if pages == 0 {
-        return None;
+impl Fall {
+    // One ask less is left.
+    fn less(self) -> Fall
+        ensures { result ≡ less self }
+    {
+        Fall {
+            ask: self.ask.saturating_sub(1),
+            after: self.after,
+        }
     }
-    if !writes {
-        return None;
-    }
-    Some(Write {
-        page: part(x, 1048576, 4096) % pages,
-        word: x,
-    })
 }
 
 impl Plan {
@@ -174,8 +180,10 @@ impl Plan {
             again: 0,
             wish: false,
             write: None,
-            random: false,
-            word: 0,
+            chance: Chance {
+                random: false,
+                word: 0,
+            },
         }
     }
 
@@ -184,19 +192,22 @@ impl Plan {
         ensures fate { result ≡ fate_of who self.old }
         ensures left { self.new ≡ asked who self.old }
     {
-        let x = draw(self.random, self.word);
-        self.word = x;
+        self.chance = self.chance.draw();
+        let fall = self.fall(who);
         match who {
-            Who::Zero => {
-                let fall = self.zero;
-                self.zero = less(fall);
-                falls(fall, self.random, x)
-            }
-            Who::One => {
-                let fall = self.one;
-                self.one = less(fall);
-                falls(fall, self.random, x)
-            }
+            Who::Zero => self.zero = fall.less(),
+            Who::One => self.one = fall.less(),
+        }
+        self.chance.falls(fall)
+    }
+
+    // The fall that is planned for a host.
+    fn fall(&self, who: Who) -> Fall
+        ensures { result ≡ fall_of who self.now }
+    {
+        match who {
+            Who::Zero => self.zero,
+            Who::One => self.one,
         }
     }
 
@@ -205,9 +216,8 @@ impl Plan {
         ensures post { result ≡ post_of self.old }
         ensures left { self.new ≡ posted self.old }
     {
-        let random = self.random;
-        let lost = (self.lose == 1) | (random & (part(self.word, 4096, 16) == 0));
-        let kept = !(random & (part(self.word, 65536, 16) == 0));
+        let lost = self.lose == 1 || self.chance.roll(4096, 16) == Some(0);
+        let kept = self.chance.roll(65536, 16) != Some(0);
         self.lose = self.lose.saturating_sub(1);
         Post { lost, kept }
     }
@@ -217,16 +227,11 @@ impl Plan {
         ensures hand { result ≡ hand_of who self.old }
         ensures left { self.new ≡ handed who self.old }
     {
-        match who {
-            Who::Zero => comes(self.random, self.word),
-            Who::One => {
-                if self.again == 0 {
-                    return comes(self.random, self.word);
-                }
-                self.again -= 1;
-                Hand::Again(0)
-            }
+        if who == Who::One && self.again > 0 {
+            self.again -= 1;
+            return Hand::Again(0);
         }
+        self.chance.comes()
     }
 
     // What a fall leaves of its pages.
@@ -234,8 +239,8 @@ impl Plan {
         ensures { result ≡ wreck_of self.now }
     {
         Wreck {
-            word: self.word ^ 0xdead,
-            touched: self.random & (part(self.word, 1048576, 2) == 1),
+            word: self.chance.word ^ 0xdead,
+            touched: self.chance.roll(1048576, 2) == Some(1),
         }
     }
 
@@ -243,11 +248,8 @@ impl Plan {
     pub fn write_on(&self, pages: u32) -> Option<Write>
         ensures { result ≡ write_of self.now pages }
     {
-        page(
-            self.random & (part(self.word, 65536, 16) >= 14),
-            self.word,
-            pages,
-        )
+        let writes = self.chance.roll(65536, 16).is_some_and(|n| n >= 14);
+        self.chance.page(writes, pages)
     }
 
     // Between rounds: whether somebody wants the guest to be moved.
@@ -255,9 +257,8 @@ impl Plan {
         ensures wish { result ≡ wish_of self.old }
         ensures left { self.new ≡ wished self.old }
     {
-        let x = draw(self.random, self.word);
-        let wish = self.wish | (self.random & (part(x, 4096, 4) == 0));
-        self.word = x;
+        self.chance = self.chance.draw();
+        let wish = self.wish || self.chance.roll(4096, 4) == Some(0);
         self.wish = false;
         wish
     }
@@ -272,11 +273,10 @@ impl Plan {
                 self.write = None;
                 Some(write)
             }
-            None => page(
-                self.random & (part(self.word, 65536, 16) >= 8),
-                self.word,
-                pages,
-            ),
+            None => {
+                let writes = self.chance.roll(65536, 16).is_some_and(|n| n >= 8);
+                self.chance.page(writes, pages)
+            }
         }
     }
 }
