@@ -4,9 +4,9 @@ use Rattle.std.proofs.Common.{◌≡◌, Bool, cond, true, false, ◌&&◌, T, l
 use mathlib.Core.Path.{subst₃}
 use Rattle.std.proofs.lemmas.Bool.{ltb-true, cond_both, false≢true}
 use Rattle.moving.specs.Hosts.{World, Goes, rest, writes, Does, counted, wrote}
-use Rattle.side.specs.declared.Who.{Who}
-use Rattle.side.specs.declared.Who.TheVariants.{Zero, One}
-use Rattle.side.specs.Sides.{numb}
+use Rattle.who.specs.declared.Who.{Who}
+use Rattle.who.specs.declared.Who.TheVariants.{Zero, One}
+use Rattle.who.specs.Numbers.{numb}
 use Rattle.plan.specs.declared.Plan.{Plan}
 use Rattle.plan.specs.declared.Write.{Write}
 use Rattle.plan.specs.declared.Fate.TheVariants as Fate

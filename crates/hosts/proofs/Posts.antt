@@ -4,7 +4,7 @@ use Rattle.std.proofs.Common.{◌≡◌, ℕ, ◌<◌, Bool, true, false, cond, 
 use mathlib.Core.List.Memᴰ
 use Rattle.std.proofs.lemmas.Bool.{true≢false, false≢true, cond-true, cond-false, false_from_ne_true, true_from_ne_false}
 use Rattle.moving.specs.Hosts.{World, Does, Sends, takes, loses, Posts, posts, with_link, roughened, other, counted, taken}
-use Rattle.plan.specs.declared.Post.{Post}
+use Rattle.side.specs.declared.Post.{Post}
 use Rattle.side.specs.Sides.{remembered}
 use Rattle.pair.specs.Worlds.{PostedIn}
 use Rattle.hosts.specs.Follows.{sent_by}

@@ -2,14 +2,14 @@
 #![tactic(auto)]
 
 ghost use Rattle.std.specs.Result.{result_err};
-ghost use Rattle.std.specs.Prelude.{◌≡◌, ℕ, ◌<◌, ◌≤◌, Bool, true, false, cond, not, ◌&&◌, T, length, is_ok, Some, None, Ok, Err, MatchResult, nat_lt};
+ghost use Rattle.std.specs.Prelude.{◌≡◌, ℕ, ◌<◌, ◌≤◌, Bool, true, false, cond, not, ◌&&◌, T, length, is_ok, Some, None, Ok, Err, MatchOption, MatchResult, nat_lt};
 ghost use Rattle.moving.specs.Hosts.{World, Does, Posts, Gets, Between, AtStart, InTime, Sends, me, kept, heard, put_page, untouched, stopped, resumed, counted, seated, renewed, rounded};
 ghost use Rattle.plan.specs.declared.Plan.{Plan};
 ghost use Rattle.hosts.specs.Stories.{Story, story_of, noted};
 ghost use Rattle.pair.specs.Worlds.{world_of as pairWorld, closed};
 ghost use Rattle.plan.specs.Plans.{post_of, posted, hand_of, handed};
-ghost use Rattle.hosts.specs.Makes.{refusal_of, memory_of, row_of, kept_of, Made, guest_of, repeated};
-ghost use Rattle.hosts.specs.Follows.{world_of, event, Fell, fills, Follows, Plain, Tells, SentAs, sent_by, Hands, Hears, FallsHearing, wishes, BetweenAs, Began, Ended};
+ghost use Rattle.hosts.specs.Makes.{guest_shown, refusal_of, memory_of, row_of, kept_of, Made, guest_of, repeated};
+ghost use Rattle.hosts.specs.Follows.{world_of, event, Fell, fills, Follows, Plain, Tells, SentAs, sent_by, HandsOver, Hears, FallsHearing, wishes, BetweenAs, Began, Ended};
 
 pub mod log;
 pub mod memory;
@@ -18,19 +18,11 @@ use log::{Event, Log, What};
 use moving::{Down, Place, Sky};
 use pair::Pair;
 use plan::{Fate, Hand, Plan, Write};
-use side::{Side, Who};
+pub use side::Lent;
+use side::Side;
 use std::error::Error;
 use std::fmt;
-
-// Memory for one host: its pages, which of them were written, a row for 64 letters or more, and room for 128 letters or more that the line keeps.
-// With twice as much for letters less is moved about.
-#[derive(Drop)]
-pub struct Lent<'a> {
-    pub pages: &'a mut [[u64; 64]],
-    pub touched: &'a mut [bool],
-    pub row: &'a mut [[u64; 72]],
-    pub kept: &'a mut [[u64; 72]],
-}
+use who::Who;
 
 // Why two hosts can't be made.
 #[derive(Clone, Copy, Debug, PartialEq, Eq)]
@@ -62,11 +54,23 @@ impl fmt::Display for Refused {
 impl Error for Refused {}
 
 // Where the guest is: it runs there; it was stopped there; it was lost there.
-#[derive(Clone, Copy)]
+#[derive(Clone, Copy, Debug, PartialEq, Eq)]
 pub enum Guest {
     Runs(Who),
     Stands(Who),
     Lost(Who),
+}
+
+impl fmt::Display for Guest {
+    ghost output = { λ guest. Some (guest_shown guest) };
+
+    fn fmt<W: fmt::Write>(&self, f: &mut fmt::Formatter<W>) -> fmt::Result {
+        match self {
+            Guest::Runs(host) => write!(f, "runs {host}"),
+            Guest::Stands(host) => write!(f, "stands {host}"),
+            Guest::Lost(host) => write!(f, "lost {host}"),
+        }
+    }
 }
 
 // Whether there may be so many pages in so much memory.
@@ -110,31 +114,18 @@ impl<'a> Hosts<'a> {
         ensures made { MatchResult result (λ h. Made pages (length events.old) h) (λ e. Some e ≡ refusal_of pages (memory_of zero.entry one.entry (length truth.old)) (row_of zero.entry one.entry) (kept_of zero.entry one.entry)) }
         ensures unless { refusal_of pages (memory_of zero.entry one.entry (length truth.old)) (row_of zero.entry one.entry) (kept_of zero.entry one.entry) ≡ None → is_ok result ≡ true }
     {
-        let Lent {
-            pages: pages0,
-            touched: touched0,
-            row: row0,
-            kept: kept0,
-        } = zero;
-        let Lent {
-            pages: pages1,
-            touched: touched1,
-            row: row1,
-            kept: kept1,
-        } = one;
-        let memory = pages0
+        let memory = zero
+            .pages
             .len()
-            .min(touched0.len())
-            .min(pages1.len())
-            .min(touched1.len())
+            .min(zero.touched.len())
+            .min(one.pages.len())
+            .min(one.touched.len())
             .min(truth.len());
-        let row = row0.len().min(row1.len());
-        let kept = kept0.len().min(kept1.len());
+        let row = zero.row.len().min(one.row.len());
+        let kept = zero.kept.len().min(one.kept.len());
         check(pages, memory, row, kept)?;
-        let zero = Side::new(pages0, touched0, row0, kept0);
-        let one = Side::new(pages1, touched1, row1, kept1);
         Ok(Hosts {
-            pair: Pair::new(pages, zero, one, truth),
+            pair: Pair::new(pages, Side::new(zero), Side::new(one), truth),
             plan: Plan::new(),
             log: Log::new(events),
         })
@@ -190,9 +181,9 @@ impl<'a> Hosts<'a> {
         ensures { Fell (world_of self.old) self.old.plan (story_of self.old.log) self.new }
     {
         let host = self.pair.turn;
-        let lost = self.pair.runs & self.pair.last.is(host);
+        let lost = self.pair.runs & (self.pair.last == host);
         let wreck = self.plan.wreck();
-        self.pair.fall(wreck.word, wreck.touched);
+        self.pair.fall(wreck);
         self.log.note(Event {
             what: What::Fall,
             host,
@@ -263,33 +254,31 @@ impl<'a> Hosts<'a> {
     }
 
     // A letter to the other host.
-    fn post(&mut self, letter: &[u64])
-        requires { length letter.now ≡ 72 }
+    fn post(&mut self, letter: &[u64; 72])
         ensures sends { Sends (world_of self.old) letter.now (world_of self.new) }
         ensures is { 0 < (world_of self.old).pages → world_of self.new ≡ sent_by (post_of self.old.plan) letter.now (world_of self.old) }
         ensures plan { self.new.plan ≡ posted self.old.plan }
         ensures story { story_of self.new.log ≡ story_of self.old.log }
     {
         let post = self.plan.post();
-        if !self.pair.post(letter, post.lost, post.kept) {
+        if !self.pair.post(letter, post) {
             self.pair.roughen();
         }
     }
 
     // A letter for the host whose turn it is, if it gets one.
-    fn hand(&mut self, into: &mut [u64]) -> bool
-        requires { length into.old ≡ 72 }
-        ensures hands { Hands (hand_of self.old.pair.turn self.old.plan) (world_of self.old) result into.new (world_of self.new) }
+    fn hand(&mut self) -> Option<[u64; 72]>
+        ensures hands { HandsOver (hand_of self.old.pair.turn self.old.plan) (world_of self.old) result (world_of self.new) }
         ensures plan { self.new.plan ≡ handed self.old.pair.turn self.old.plan }
         ensures story { story_of self.new.log ≡ story_of self.old.log }
     {
         match self.plan.hand(self.pair.turn) {
-            Hand::Next => self.pair.next(into),
-            Hand::Again(i) => again(&mut self.pair, i, into),
+            Hand::Next => self.pair.next(),
+            Hand::Again(i) => again(&mut self.pair, i),
             Hand::Mixed(how, i) => {
                 self.pair.mix(how, i as usize);
                 self.pair.roughen();
-                false
+                None
             }
         }
     }
@@ -306,15 +295,36 @@ impl<'a> Hosts<'a> {
 }
 
 // The letter that is kept for the host whose turn it is at place i; the next where none is.
-fn again(pair: &mut Pair, i: u32, into: &mut [u64]) -> bool
-    requires { length into.old ≡ 72 }
-    ensures { Hands (Hand.Again i) (pairWorld pair.old) result into.new (pairWorld pair.new) }
+fn again(pair: &mut Pair, i: u32) -> Option<[u64; 72]>
+    ensures { HandsOver (Hand.Again i) (pairWorld pair.old) result (pairWorld pair.new) }
 {
-    if pair.again(i as usize, into) {
-        pair.roughen();
-        return true;
+    let Some(letter) = pair.again(i as usize).copied() else {
+        return pair.next();
+    };
+    pair.roughen();
+    Some(letter)
+}
+
+// As many words as there are, as an array.
+fn whole<const N: usize>(words: &[u64]) -> &[u64; N]
+    requires { length words.now ≡ N }
+    ensures { result.now ≡ words.now }
+{
+    words.as_array().unwrap()
+}
+
+// A letter, if it is one, is put where it's asked for; whether it is one.
+fn put_into(letter: Option<[u64; 72]>, into: &mut [u64]) -> bool
+    requires { length into.old ≡ 72 }
+    ensures { MatchOption letter (result ≡ false) (λ l. (result ≡ true) × (into.new ≡ l)) }
+{
+    match letter {
+        Some(letter) => {
+            into.copy_from_slice(&letter);
+            true
+        }
+        None => false,
     }
-    pair.next(into)
 }
 
 // What a host may ask: what the trait says of it, and what is planned for it.
@@ -333,7 +343,7 @@ impl<'a> Place for Hosts<'a> {
         ensures planned { Plain self.old (world_of self.old) (is_ok result) self.new }
     {
         let due = self.begin()?;
-        self.pair.page(p as usize, into);
+        into.copy_from_slice(self.pair.page(p as usize));
         self.end(due)
     }
 
@@ -344,6 +354,7 @@ impl<'a> Place for Hosts<'a> {
         ensures does { Does (world_of self.old) (put_page p words.now (world_of self.old)) (is_ok result) (world_of self.new) }
         ensures planned { Plain self.old (put_page p words.now (world_of self.old)) (is_ok result) self.new }
     {
+        let words = whole(words);
         let due = self.begin()?;
         self.pair.put(p as usize, words);
         self.end(due)
@@ -423,6 +434,7 @@ impl<'a> Place for Hosts<'a> {
         ensures posts { Posts (world_of self.old) letter.now (is_ok result) (world_of self.new) }
         ensures planned { 0 < (world_of self.old).pages → SentAs self.old letter.now (is_ok result) self.new }
     {
+        let letter = whole(letter);
         let due = self.begin()?;
         self.post(letter);
         self.end(due)
@@ -435,7 +447,7 @@ impl<'a> Place for Hosts<'a> {
         ensures planned { MatchResult result (λ b. Hears self.old b into.new true self.new) (λ _. FallsHearing self.old self.new) }
     {
         let due = self.begin()?;
-        let got = self.hand(into);
+        let got = put_into(self.hand(), into);
         self.end(due)?;
         Ok(got)
     }
@@ -450,17 +462,11 @@ impl<'a> Sky for Hosts<'a> {
         ensures stays { result ≡ false → world_of self.new ≡ world_of self.old }
         ensures same { (self.new.plan ≡ self.old.plan) × (story_of self.new.log ≡ story_of self.old.log) }
     {
-        match i {
-            0 => {
-                self.pair.seat(Who::Zero);
-                true
-            }
-            1 => {
-                self.pair.seat(Who::One);
-                true
-            }
-            _ => false,
-        }
+        let Ok(who) = Who::try_from(i) else {
+            return false;
+        };
+        self.pair.seat(who);
+        true
     }
 
     fn renew(&mut self)

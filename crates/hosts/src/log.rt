@@ -1,10 +1,11 @@
 // What happened, in the order in which it did, in memory that is lent; what there is no room for is counted.
-ghost use Rattle.std.specs.Prelude.{◌≡◌, [], length, min, take};
-ghost use Rattle.hosts.specs.Stories.{story_of, noted};
+ghost use Rattle.std.specs.Prelude.{◌≡◌, Some, [], length, min, take};
+ghost use Rattle.hosts.specs.Stories.{story_of, noted, what_shown};
 
-use side::Who;
+use std::fmt;
+use who::Who;
 
-#[derive(Clone, Copy, PartialEq, Eq)]
+#[derive(Clone, Copy, Debug, PartialEq, Eq)]
 pub enum What {
     // the guest was stopped
     Stop,
@@ -16,10 +17,33 @@ pub enum What {
     Lost,
 }
 
-#[derive(Clone, Copy)]
+#[derive(Clone, Copy, Debug, PartialEq, Eq)]
 pub struct Event {
     pub what: What,
     pub host: Who,
+}
+
+impl fmt::Display for What {
+    ghost output = { λ what. Some (what_shown what) };
+
+    fn fmt<W: fmt::Write>(&self, f: &mut fmt::Formatter<W>) -> fmt::Result {
+        f.write_str(match self {
+            What::Stop => "stop",
+            What::Resume => "resume",
+            What::Fall => "fall",
+            What::Lost => "lost",
+        })
+    }
+}
+
+// What happened, and to which host; but that a guest was lost is told right after the host's fall, without it.
+impl fmt::Display for Event {
+    fn fmt<W: fmt::Write>(&self, f: &mut fmt::Formatter<W>) -> fmt::Result {
+        match self.what {
+            What::Lost => write!(f, "{}", self.what),
+            what => write!(f, "{what} {}", self.host),
+        }
+    }
 }
 
 #[derive(Drop)]

@@ -4,7 +4,7 @@ ghost use Rattle.hosts.specs.Makes.{refusal_of, Made};
 
 use super::{Hosts, Lent, Refused};
 use crate::log::{Event, What};
-use side::Who;
+use who::Who;
 
 // Memory for one host, with twice as much for letters as it needs.
 #[derive(Drop)]

@@ -10,4 +10,4 @@ pub returns : goal.returns
 returns c =
     let begun = c.in_ok-due.ensures in
     let f = ended_as begun c.end.ensures begun.world refl begun.story in
-    record { does = (follows_does f, λ _. c.page.ensures ∙ ap (λ u. (me u).page c.args.p) begun.world); planned = f }
+    record { does = (follows_does f, λ _. c.copy_from_slice.ensures.after ∙ c.page.ensures ∙ ap (λ u. (me u).page c.args.p) begun.world); planned = f }
