@@ -5,11 +5,13 @@ ghost use Rattle.std.specs.Prelude.{◌≡◌, ◌<◌};
 ghost use Rattle.moving.specs.Hosts.{AtStart};
 ghost use Rattle.hosts.specs.Follows.{world_of, BetweenAs};
 ghost use Rattle.pair.specs.Worlds.{closed};
+ghost use Rattle.who.specs.Numbers.{numb};
 ghost use Rattle.rounds.specs.Plays.{Begins, Ends};
 
 use hosts::Hosts;
 use moving::{Down, Node, Sky};
 use std::marker::Model;
+use who::Who;
 
 // Hosts, both nodes on them, and how many rounds they have had.
 #[derive(Drop)]
@@ -42,11 +44,11 @@ pub enum Round {
 }
 
 // A turn of a node: one that falls is replaced by another.
-fn turn(node: &mut Node, hosts: &mut Hosts, i: u32)
-    requires two { i < 2 }
-    requires begins { Begins i node.old (world_of hosts.old) }
-    ensures { Ends i node.old (world_of hosts.old) node.new (world_of hosts.new) }
+fn turn(node: &mut Node, hosts: &mut Hosts, who: Who)
+    requires { Begins (numb who) node.old (world_of hosts.old) }
+    ensures { Ends (numb who) node.old (world_of hosts.old) node.new (world_of hosts.new) }
 {
+    let i = u32::from(who);
     if !hosts.seat(i) {
         return;
     }
@@ -86,8 +88,8 @@ impl<'a> Play<'a> {
         }
         self.rounds += 1;
         self.hosts.between();
-        turn(&mut self.zero, &mut self.hosts, 0);
-        turn(&mut self.one, &mut self.hosts, 1);
+        turn(&mut self.zero, &mut self.hosts, Who::Zero);
+        turn(&mut self.one, &mut self.hosts, Who::One);
         end(&mut self.hosts)
     }
 

@@ -5,14 +5,14 @@ use Rattle.moving.proofs.Rounds.{next}
 use Rattle.rounds.proofs.Closes.{closes}
 use Rattle.rounds.proofs.Play.round.Goals as goal
 
-pub turn-requires-clause-begins : goal.turn-requires-clause-begins
-turn-requires-clause-begins c =
+pub turn-requires : goal.turn-requires
+turn-requires c =
     let p = c.self.invariant in
     let b = c.between.ensures.between in
     record { up = between_fell b ∙ p.up; rested = p.zero; m = 128 * c.self.inside.rounds; o = c.self.inside.one; room = omega arith; whole = between_whole b p.whole }
 
-pub turn-requires-2-clause-begins : goal.turn-requires-2-clause-begins
-turn-requires-2-clause-begins c =
+pub turn-requires-2 : goal.turn-requires-2
+turn-requires-2 c =
     let p = c.self.invariant in
     let h = c.turn.ensures.whole (128 * c.self.inside.rounds) c.self.inside.one (between_whole c.between.ensures.between p.whole) in
     record { up = c.turn.ensures.up; rested = p.one; m = 128 * c.self.inside.rounds + 64; o = c.turn.new.node; room = omega arith; whole = next h }
