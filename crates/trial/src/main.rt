@@ -6,8 +6,8 @@ use hosts::{Guest, empty_memory};
 use moving::Place;
 use plan::Write;
 use rounds::Play;
-use side::Who;
 use std::io;
+use who::Who;
 
 // A move: its rounds, and those at whose end the guest stood still.
 #[derive(Clone, Copy)]
