@@ -1,6 +1,8 @@
 -- What a log tells.
 -- Assumes nothing.
 use Rattle.std.specs.Prelude.{ℕ, ◌+◌, ◌-◌, ◌^◌, min, cond, List, [], ◌∷◌, ◌++◌, length, take, codes, nat_lt}
+use Rattle.who.specs.declared.Who.{Who}
+use Rattle.who.specs.Numbers.{shown}
 use Rattle.hosts.specs.declared.log.Event.{Event}
 use Rattle.hosts.specs.declared.log.What.{What}
 use Rattle.hosts.specs.declared.log.What.TheVariants.{Stop, Resume, Fall, Lost}
@@ -23,9 +25,9 @@ noted e s =
     (record { room = s.room; events = s.events ++ e ∷ []; missed = s.missed })
     (record { room = s.room; events = s.events; missed = min (s.missed + 1) (2 ^ 64 - 1) })
 
--- How that which happened is printed.
-abbrev pub what_shown : What → List ℕ
-what_shown Stop = codes "stop"
-what_shown Resume = codes "resume"
-what_shown Fall = codes "fall"
-what_shown Lost = codes "lost"
+-- How that is printed which happened to a host.
+abbrev pub printed : What → Who → List ℕ
+printed Stop h = codes "stop " ++ shown h
+printed Resume h = codes "resume " ++ shown h
+printed Fall h = codes "fall " ++ shown h
+printed Lost h = codes "lost"

@@ -1,6 +1,6 @@
 // What happened, in the order in which it did, in memory that is lent; what there is no room for is counted.
 ghost use Rattle.std.specs.Prelude.{◌≡◌, Some, [], length, min, take};
-ghost use Rattle.hosts.specs.Stories.{story_of, noted, what_shown};
+ghost use Rattle.hosts.specs.Stories.{story_of, noted, printed};
 
 use std::fmt;
 use who::Who;
@@ -23,25 +23,16 @@ pub struct Event {
     pub host: Who,
 }
 
-impl fmt::Display for What {
-    ghost output = { λ what. Some (what_shown what) };
-
-    fn fmt<W: fmt::Write>(&self, f: &mut fmt::Formatter<W>) -> fmt::Result {
-        f.write_str(match self {
-            What::Stop => "stop",
-            What::Resume => "resume",
-            What::Fall => "fall",
-            What::Lost => "lost",
-        })
-    }
-}
-
-// What happened, and to which host; but that a guest was lost is told right after the host's fall, without it.
+// What happened, and to which host; that the guest was lost follows the fall of its host, and is printed without it.
 impl fmt::Display for Event {
+    ghost output = { λ event. Some (printed event.what event.host) };
+
     fn fmt<W: fmt::Write>(&self, f: &mut fmt::Formatter<W>) -> fmt::Result {
         match self.what {
-            What::Lost => write!(f, "{}", self.what),
-            what => write!(f, "{what} {}", self.host),
+            What::Stop => write!(f, "stop {}", self.host),
+            What::Resume => write!(f, "resume {}", self.host),
+            What::Fall => write!(f, "fall {}", self.host),
+            What::Lost => write!(f, "lost"),
         }
     }
 }
