@@ -1,7 +1,7 @@
 -- Between rounds, and at their end.
 -- Assumes nothing.
 use Rattle.std.proofs.Common.{◌≡◌, ◌+◌, ◌*◌, ◌<◌, min, Bool, true, false, cond, not, ◌&&◌, T, ltb, Option, sym, refl, ap, ◌∙◌, subst, arith}
-use Rattle.std.proofs.lemmas.Bool.{cond_both, ltb-true}
+use Rattle.std.proofs.lemmas.Bool.{cond_both, ltb-true, not-true}
 use Rattle.moving.specs.Hosts.{World, Between, asked, InTime, rounded, with_turn, good}
 use Rattle.plan.specs.declared.Write.{Write}
 use Rattle.pair.specs.Worlds.{wished, closed}
@@ -11,16 +11,12 @@ use Rattle.hosts.proofs.Plans.{fills_goes, and_left, and_right}
 pub wishes_pages : (b : Bool) (w : World) → (wishes b w).pages ≡ w.pages
 wishes_pages b w = cond_both (b && w.runs && not w.wish) (wished w) w (λ v. v.pages ≡ w.pages) (λ _. refl) (λ _. refl)
 
-not_so : (b : Bool) → not b ≡ true → b ≡ false
-not_so true e = sym e
-not_so false e = refl
-
 -- what was planned is what the traits allow
 pub between_of : (x : Option Write) (b : Bool) (w : World) → Between w (fills x (wishes b w))
 between_of x b w =
     cond_both (b && w.runs && not w.wish) (wished w) w (λ v. Between w (fills x v))
     (λ e.
-    asked (fills x (wished w)) (subst T (sym (and_right b w.runs (and_left (b && w.runs) _ e))) tt) (not_so w.wish (and_right (b && w.runs) _ e))
+    asked (fills x (wished w)) (subst T (sym (and_right b w.runs (and_left (b && w.runs) _ e))) tt) (not-true w.wish (and_right (b && w.runs) _ e))
     (fills_goes x (wished w)))
     (λ _. Between.nothing (fills x w) (fills_goes x w))
 

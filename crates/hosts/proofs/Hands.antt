@@ -1,26 +1,68 @@
 -- A letter that is handed over as planned.
 -- Assumes nothing.
-use Rattle.std.proofs.Common.{◌≡◌, ℕ, ◌%◌, Bool, true, false, List, [], length, Ok, Err, sym, refl, ap, ◌∙◌, subst, subst₂, inl, inr, arith}
+use Rattle.std.proofs.Common.{◌≡◌, ℕ, ◌%◌, Bool, true, false, List, [], ◌∷◌, ◌<◌, length, is_err, Ok, Some, None, Option, MatchOption, Result, unwrap_or, sym, refl, ap, ◌∙◌, subst, subst₂, inl, inr, arith}
 use mathlib.Core.Path.{subst₃}
 use mathlib.Core.List.Memᴰ
 use mathlib.Core.List.{Memᴰ}
+use Rattle.std.specs.List.{slice_get}
 use Rattle.std.proofs.lemmas.Bool.{cases_lt}
+use Rattle.std.proofs.lemmas.Option.{none-some, slice_get_within, slice_get-get_or, get_or_from_slice_get}
 use Rattle.moving.specs.declared.Down.{Down}
-use Rattle.moving.specs.Hosts.{World, Does, Gives, next, again, nothing, Gets, gets, falls, with_link, roughened, me, rest', counted}
-use Rattle.side.specs.declared.Who.{Who}
-use Rattle.side.specs.declared.Who.TheVariants.{Zero, One}
-use Rattle.side.specs.Sides.{numb}
+use Rattle.moving.specs.Hosts.{World, Does, Gives, next, again, nothing, Gets, gets, falls, with_link, roughened, me, head_is, rest', counted}
+use Rattle.who.specs.declared.Who.{Who}
+use Rattle.who.specs.declared.Who.TheVariants.{Zero, One}
+use Rattle.who.specs.Numbers.{numb}
 use Rattle.side.specs.Sides as sides
 use Rattle.side.proofs.Letters.{mem_at, round_below, roughened_among, roughened_length}
-use Rattle.pair.specs.Worlds.{mixed_in}
+use Rattle.pair.specs.Worlds.{mixed_in, NextIn}
 use Rattle.plan.specs.declared.Plan.{Plan}
 use Rattle.plan.specs.declared.Hand.{Hand}
 use Rattle.plan.specs.declared.Hand.TheVariants.{Next, Again, Mixed}
 use Rattle.plan.specs.Plans.{hand_of, handed}
 use Rattle.hosts.specs.declared.Hosts.{Hosts}
 use Rattle.hosts.specs.Stories.{Story, story_of}
-use Rattle.hosts.specs.Follows.{world_of, HandsNext, Hands, Hears, Follows, Began, asked_now}
-use Rattle.hosts.proofs.Plans.{as_planned, follows_does}
+use Rattle.hosts.specs.Follows.{world_of, HandsNext, Hands, HandsOver, Hears, Follows, Began, asked_now}
+use Rattle.hosts.proofs.Plans.{as_planned, follows_does, err_case}
+
+-- the first letter is handed over, if there is one
+head_none : (xs : List (List ℕ)) (l : List ℕ) → None ≡ slice_get xs 0 → head_is xs false l
+unfolding head_is
+head_none [] l e = refl
+head_none (x ∷ xs) l e = absurd (none-some x e)
+
+head_some : (xs : List (List ℕ)) (l : List ℕ) → Some l ≡ slice_get xs 0 → head_is xs true l
+unfolding head_is
+head_some [] l e = absurd (none-some l (sym e))
+head_some (x ∷ xs) l e = (refl, ap (λ o. unwrap_or o l) e)
+
+next_over : (w : World) (r : Option (List ℕ)) (v : World) → NextIn w.turn w r v → HandsOver Next w r v
+next_over w None v n = λ l. (head_none (me w).row l n.first, n.is)
+next_over w (Some l) v n = (head_some (me w).row l n.first, n.is)
+
+pub next_as : (x : Hand) (w : World) (r : Option (List ℕ)) (v : World) → Next ≡ x → NextIn w.turn w r v → HandsOver x w r v
+next_as x w r v e n = subst (λ y. HandsOver y w r v) e (next_over w r v n)
+
+-- a letter that is kept is
+pub again_some : (i : ℕ) (w : World) (l : List ℕ) (v : World) → Some l ≡ slice_get (me w).old (i % length (me w).old) → v ≡ roughened w → HandsOver (Again i) w (Some l) v
+again_some i w l v e r =
+    let lt = slice_get_within (me w).old _ l (sym e) in
+    (λ z. absurd (omega arith), λ _. (refl, sym (get_or_from_slice_get (me w).old _ l [] (sym e)), r))
+
+-- where none is, it's the next
+pub again_none : (i : ℕ) (w : World) (r : Option (List ℕ)) (v : World) → None ≡ slice_get (me w).old (i % length (me w).old) → NextIn w.turn w r v → HandsOver (Again i) w r v
+again_none i w r v e n = over r (next_over w r v n)
+  where
+    empty : 0 < length (me w).old → ⊥
+    empty lt = none-some _ (e ∙ slice_get-get_or (me w).old _ [] (round_below i (me w).old lt))
+
+    over : (r : Option (List ℕ)) → HandsOver Next w r v → HandsOver (Again i) w r v
+    over None h = λ l. (λ _. h l, λ lt. absurd (empty lt))
+    over (Some l) h = (λ _. h, λ lt. absurd (empty lt))
+
+-- what is handed over, as a letter in the memory for it
+pub handed_into : (x : Hand) (w : World) (r : Option (List ℕ)) (b : Bool) (l : List ℕ) (v : World) → HandsOver x w r v → MatchOption r (b ≡ false) (λ k. (b ≡ true) × (l ≡ k)) → Hands x w b l v
+handed_into x w None b l v h e = subst (λ y. Hands x w y l v) (sym e) (h l)
+handed_into x w (Some k) b l v h e = subst₂ (λ y z. Hands x w y z v) (sym e.0) (sym e.1) h
 
 next_gives : (w : World) (b : Bool) (l : List ℕ) (d : World) → HandsNext w b l d → Gives w b l d
 next_gives w b l d h = subst (Gives w b l) (sym h.1) (next b l h.0)
@@ -73,8 +115,9 @@ hears_of h m due ok b l x q t g begun hands plan story ends =
 pub hears_gets : {h g : Hosts} {b : Bool} {l : List ℕ} → Hears h b l true g → Gets (world_of h) (Ok b) l (world_of g)
 hears_gets {h = h} {b = b} {l = l} k = gets k.d b l _ (hands_gives _ (world_of h) b l k.d k.hands) (follows_does k.follows)
 
-pub hears_falls : {h g : Hosts} {b : Bool} {l : List ℕ} (x : Down) (m : List ℕ) → Hears h b l false g → Gets (world_of h) (Err x) m (world_of g)
-hears_falls {h = h} {b = b} {l = l} x m k = falls x k.d b l m _ (hands_gives _ (world_of h) b l k.d k.hands) (follows_does k.follows)
+pub hears_falls : {h g : Hosts} {b : Bool} {l : List ℕ} (r : Result Bool Down) (m : List ℕ) → is_err r ≡ true → Hears h b l false g → Gets (world_of h) r m (world_of g)
+hears_falls {h = h} {g = g} {b = b} {l = l} r m e k =
+    err_case (λ r. Gets (world_of h) r m (world_of g)) r e (λ x. falls x k.d b l m _ (hands_gives _ (world_of h) b l k.d k.hands) (follows_does k.follows))
 
-pub gets_none : (w : World) (x : Down) (m : List ℕ) (v : World) → ((d : World) → Does w d false v) → Gets w (Err x) m v
-gets_none w x m v f = falls x _ false [] m v (nothing [] [] (λ y n. absurd (Memᴰ.not-nil n)) (omega arith)) (f _)
+pub gets_none : (w : World) (r : Result Bool Down) (m : List ℕ) (v : World) → is_err r ≡ true → ((d : World) → Does w d false v) → Gets w r m v
+gets_none w r m v e f = err_case (λ r. Gets w r m v) r e (λ x. falls x _ false [] m v (nothing [] [] (λ y n. absurd (Memᴰ.not-nil n)) (omega arith)) (f _))

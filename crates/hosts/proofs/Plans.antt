@@ -1,18 +1,19 @@
 -- An ask that goes as planned is one that the traits allow.
 -- Assumes nothing.
-use Rattle.std.proofs.Common.{◌≡◌, Bool, true, false, ◌&&◌, T, ltb, replicate, is_ok, is_err, Some, None, Ok, Err, Option, Result, sym, refl, ap, ◌∙◌, subst, subst₂}
+use Rattle.std.proofs.Common.{◌≡◌, Bool, cond, true, false, ◌&&◌, T, ltb, replicate, is_ok, is_err, Some, None, Ok, Err, Option, Result, sym, refl, ap, ◌∙◌, subst, subst₂}
 use mathlib.Core.Path.{subst₃}
-use Rattle.std.proofs.lemmas.Bool.{ltb-true, cond_both}
+use Rattle.std.proofs.lemmas.Bool.{ltb-true, cond_both, false≢true}
 use Rattle.moving.specs.Hosts.{World, Goes, rest, writes, Does, counted, wrote}
-use Rattle.side.specs.declared.Who.{Who}
-use Rattle.side.specs.declared.Who.TheVariants.{Zero, One}
-use Rattle.side.specs.Sides.{numb}
+use Rattle.who.specs.declared.Who.{Who}
+use Rattle.who.specs.declared.Who.TheVariants.{Zero, One}
+use Rattle.who.specs.Numbers.{numb}
 use Rattle.plan.specs.declared.Plan.{Plan}
 use Rattle.plan.specs.declared.Write.{Write}
+use Rattle.plan.specs.declared.Fate.TheVariants as Fate
 use Rattle.hosts.specs.declared.Hosts.{Hosts}
 use Rattle.hosts.specs.declared.log.What.{What}
 use Rattle.hosts.specs.Stories.{Story, noted}
-use Rattle.hosts.specs.Follows.{world_of, who_by, event, fills, Follows, stands, before, after, down, Fell}
+use Rattle.hosts.specs.Follows.{world_of, who_by, event, fills, Follows, stands, before, after, down, Fell, Began, fate_now, asked_now}
 
 pub and_left : (a b : Bool) → (a && b) ≡ true → a ≡ true
 and_left true b e = refl
@@ -40,14 +41,27 @@ follows_does {h = h} {d = d} (down g up w p s) = subst (Does (world_of h) d fals
 pub as_planned : {h : Hosts} {d : World} {p q : Plan} {s t : Story} {b : Bool} {g : Hosts} → p ≡ q → s ≡ t → Follows h d p s b g → Follows h d q t b g
 as_planned {h = h} {d = d} {b = b} {g = g} e f k = subst₂ (λ x y. Follows h d x y b g) e f k
 
+-- what holds of every error holds of a call that gave one
+pub err_case : {A E : Type 0} (P : Result A E → Type 0) (r : Result A E) → is_err r ≡ true → ((x : E) → P (Err x)) → P r
+err_case P (Ok x) e f = absurd (false≢true e)
+err_case P (Err x) e f = f x
+
 -- a call that gave an error gave no value
-pub fails : {A E : Type 0} (r : Result A E) → is_err r ≡ true → is_ok r ≡ false
-fails (Ok x) e = sym e
-fails (Err x) e = refl
+fails : {A E : Type 0} (r : Result A E) → is_err r ≡ true → is_ok r ≡ false
+fails r e = err_case (λ r. is_ok r ≡ false) r e (λ _. refl)
+
+pub no_value : {A E V : Type 0} (r : Result A E) → is_err r ≡ true → is_ok r ≡ true → V
+no_value r e t = absurd (false≢true (sym (fails r e) ∙ t))
 
 -- a fall over an ask, whatever that would have done
-pub falls_as : {h : Hosts} {d : World} {p : Plan} {s : Story} {b : Bool} {g : Hosts} → b ≡ false → Follows h d p s false g → Follows h d p s b g
-falls_as {h = h} {d = d} {p = p} {s = s} {g = g} e f = subst (λ x. Follows h d p s x g) (sym e) f
+pub falls_as : {A E : Type 0} {h : Hosts} {d : World} {p : Plan} {s : Story} {g : Hosts} (r : Result A E) → is_err r ≡ true → Follows h d p s false g → Follows h d p s (is_ok r) g
+falls_as {h = h} {d = d} {p = p} {s = s} {g = g} r e f = subst (λ x. Follows h d p s x g) (sym (fails r e)) f
+
+-- an ask that is done, from how it began to how it ended: what was done made the world w of d
+pub ended_as : {h m g : Hosts} {due b : Bool} {d w : World} {p : Plan} {s t : Story} → Began h due m →
+    ((h : Hosts) (d : World) → (world_of h).fell ≡ false → fate_now h ≡ cond due Fate.After Fate.Stands → w ≡ counted d → Follows h d p s b g) →
+    w ≡ counted d → p ≡ m.plan → s ≡ t → Follows h d (asked_now h) t b g
+ended_as {h = h} {d = d} k f e p s = as_planned (p ∙ k.plan) s (f h d k.up k.fate e)
 
 -- a fall in a world, with a plan and a story, that are those
 pub fell_at : {w x : World} {p q : Plan} {s t : Story} {g : Hosts} → w ≡ x → p ≡ q → s ≡ t → Fell w p s g → Fell x q t g

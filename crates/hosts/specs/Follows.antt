@@ -2,14 +2,14 @@
 -- Assumes nothing.
 use Rattle.std.specs.Prelude.{◌≡◌, ℕ, ◌%◌, ◌<◌, Bool, true, false, cond, not, ◌&&◌, ◌⊎◌, List, [], length, replicate, Some, None, Option, ◌==◌, nat_lt, slice_index_or}
 use Rattle.moving.specs.Hosts.{World, counted, roughened, me, other, with_link, taken, head_is, rest', wrote}
-use Rattle.side.specs.declared.Who.{Who}
-use Rattle.side.specs.declared.Who.TheVariants.{Zero, One}
+use Rattle.who.specs.declared.Who.{Who}
+use Rattle.who.specs.declared.Who.TheVariants.{Zero, One}
 use Rattle.side.specs.Sides.{remembered}
 use Rattle.pair.specs.Worlds as pair
 use Rattle.pair.specs.Worlds.{FallenWith, mixed_in, wished}
 use Rattle.plan.specs.declared.Plan.{Plan}
 use Rattle.plan.specs.declared.Write.{Write}
-use Rattle.plan.specs.declared.Post.{Post}
+use Rattle.side.specs.declared.Post.{Post}
 use Rattle.plan.specs.declared.Hand.{Hand}
 use Rattle.plan.specs.declared.Hand.TheVariants.{Next, Again, Mixed}
 use Rattle.plan.specs.declared.Fate.TheVariants.{Stands, Before, After}
@@ -87,6 +87,11 @@ abbrev pub Hands : Hand → World → Bool → List ℕ → World → Type 0
 Hands Next w b l d = HandsNext w b l d
 Hands (Again i) w b l d = (length (me w).old ≡ 0 → HandsNext w b l d) × (0 < length (me w).old → (b ≡ true) × (l ≡ slice_index_or (me w).old (i % length (me w).old) []) × (d ≡ roughened w))
 Hands (Mixed m i) w b l d = (b ≡ false) × (d ≡ roughened (mixed_in m i w.turn w))
+
+-- The same of an option: what is handed over is a letter, or there is none.
+abbrev pub HandsOver : Hand → World → Option (List ℕ) → World → Type 0
+HandsOver x w None d = (l : List ℕ) → Hands x w false l d
+HandsOver x w (Some l) d = Hands x w true l d
 
 -- Somebody wants the guest to be moved: it's told, if it runs and isn't to be moved already.
 abbrev pub wishes : Bool → World → World

@@ -1,10 +1,11 @@
 -- How two hosts are made, and what is asked of them beside.
 -- Assumes nothing.
-use Rattle.std.specs.Prelude.{◌≡◌, ℕ, ◌+◌, min, Bool, cond, [], length, Some, None, Option, ◌==◌, nat_lt}
+use Rattle.std.specs.Prelude.{◌≡◌, ℕ, ◌+◌, ◌++◌, min, List, codes, Bool, cond, [], length, Some, None, Option, ◌==◌, nat_lt}
 use Rattle.moving.specs.Hosts.{World, AtStart}
+use Rattle.who.specs.Numbers.{shown}
 use Rattle.plan.specs.declared.Plan.{Plan}
 use Rattle.plan.specs.Plans.{calm}
-use Rattle.hosts.specs.declared.Lent.{Lent}
+use Rattle.side.specs.declared.Lent.{Lent}
 use Rattle.hosts.specs.declared.Hosts.{Hosts}
 use Rattle.hosts.specs.declared.Refused.{Refused}
 use Rattle.hosts.specs.declared.Refused.TheVariants.{NoPages, ManyPages, ShortMemory, ShortRow, ShortKept}
@@ -44,4 +45,10 @@ guest_of w = cond w.runs (Runs (who_by w.last)) (cond w.lost (Lost (who_by w.las
 
 -- The plan, with one letter more to come again, if that's so.
 abbrev pub repeated : Bool → Plan → Plan
-repeated b p = cond b (record { zero = p.zero; one = p.one; lose = p.lose; again = min (p.again + 1) 4294967295; wish = p.wish; write = p.write; random = p.random; word = p.word }) p
+repeated b p = cond b (record p { again = min (p.again + 1) 4294967295 }) p
+
+-- How that is printed.
+abbrev pub guest_shown : Guest → List ℕ
+guest_shown (Runs h) = codes "runs " ++ shown h
+guest_shown (Stands h) = codes "stands " ++ shown h
+guest_shown (Lost h) = codes "lost " ++ shown h

@@ -1,7 +1,11 @@
 -- What a log tells.
 -- Assumes nothing.
-use Rattle.std.specs.Prelude.{ℕ, ◌+◌, ◌-◌, ◌^◌, min, cond, List, [], ◌∷◌, ◌++◌, length, take, nat_lt}
+use Rattle.std.specs.Prelude.{ℕ, ◌+◌, ◌-◌, ◌^◌, min, cond, List, [], ◌∷◌, ◌++◌, length, take, codes, nat_lt}
+use Rattle.who.specs.declared.Who.{Who}
+use Rattle.who.specs.Numbers.{shown}
 use Rattle.hosts.specs.declared.log.Event.{Event}
+use Rattle.hosts.specs.declared.log.What.{What}
+use Rattle.hosts.specs.declared.log.What.TheVariants.{Stop, Resume, Fall, Lost}
 use Rattle.hosts.specs.declared.log.Log.{Log}
 
 -- What happened, in the order in which it did; for how much there is room; and how many things more happened when there was none.
@@ -20,3 +24,10 @@ noted e s =
     cond (nat_lt (length s.events) s.room)
     (record { room = s.room; events = s.events ++ e ∷ []; missed = s.missed })
     (record { room = s.room; events = s.events; missed = min (s.missed + 1) (2 ^ 64 - 1) })
+
+-- How that is printed which happened to a host.
+abbrev pub printed : What → Who → List ℕ
+printed Stop h = codes "stop " ++ shown h
+printed Resume h = codes "resume " ++ shown h
+printed Fall h = codes "fall " ++ shown h
+printed Lost h = codes "lost"

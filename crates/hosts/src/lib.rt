@@ -1,35 +1,31 @@
 // Two hosts in memory, their guest and the line between them, which do what they are asked for, and beside that what a plan says.
 #![tactic(auto)]
 
-ghost use Rattle.std.specs.Prelude.{◌≡◌, ℕ, ◌<◌, ◌≤◌, Bool, true, false, cond, not, ◌&&◌, T, length, is_ok, Some, None, Ok, Err, MatchResult, nat_lt};
+ghost use Rattle.std.specs.Result.{result_err};
+ghost use Rattle.std.specs.Prelude.{◌≡◌, ℕ, ◌<◌, ◌≤◌, Bool, true, false, cond, not, ◌&&◌, T, length, is_ok, Some, None, Ok, Err, MatchOption, MatchResult, nat_lt};
 ghost use Rattle.moving.specs.Hosts.{World, Does, Posts, Gets, Between, AtStart, InTime, Sends, me, kept, heard, put_page, untouched, stopped, resumed, counted, seated, renewed, rounded};
 ghost use Rattle.plan.specs.declared.Plan.{Plan};
 ghost use Rattle.hosts.specs.Stories.{Story, story_of, noted};
 ghost use Rattle.pair.specs.Worlds.{world_of as pairWorld, closed};
 ghost use Rattle.plan.specs.Plans.{post_of, posted, hand_of, handed};
-ghost use Rattle.hosts.specs.Makes.{refusal_of, memory_of, row_of, kept_of, Made, guest_of, repeated};
-ghost use Rattle.hosts.specs.Follows.{world_of, event, Fell, fills, Follows, Plain, Tells, SentAs, sent_by, Hands, Hears, FallsHearing, wishes, BetweenAs, Began, Ended};
+ghost use Rattle.hosts.specs.Makes.{guest_shown, refusal_of, memory_of, row_of, kept_of, Made, guest_of, repeated};
+ghost use Rattle.hosts.specs.Follows.{world_of, event, Fell, fills, Follows, Plain, Tells, SentAs, sent_by, HandsOver, Hears, FallsHearing, wishes, BetweenAs, Began, Ended};
 
 pub mod log;
+pub mod memory;
 
 use log::{Event, Log, What};
 use moving::{Down, Place, Sky};
 use pair::Pair;
 use plan::{Fate, Hand, Plan, Write};
-use side::{Side, Who};
-
-// Memory for one host: its pages, which of them were written, a row for 64 letters or more, and room for 128 letters or more that the line keeps.
-// With twice as much for letters less is moved about.
-#[derive(Drop)]
-pub struct Lent<'a> {
-    pub pages: &'a mut [[u64; 64]],
-    pub touched: &'a mut [bool],
-    pub row: &'a mut [[u64; 72]],
-    pub kept: &'a mut [[u64; 72]],
-}
+pub use side::Lent;
+use side::Side;
+use std::error::Error;
+use std::fmt;
+use who::Who;
 
 // Why two hosts can't be made.
-#[derive(Clone, Copy, PartialEq, Eq)]
+#[derive(Clone, Copy, Debug, PartialEq, Eq)]
 pub enum Refused {
     // a guest without pages
     NoPages,
@@ -43,34 +39,60 @@ pub enum Refused {
     ShortKept,
 }
 
+impl fmt::Display for Refused {
+    fn fmt<W: fmt::Write>(&self, f: &mut fmt::Formatter<W>) -> fmt::Result {
+        f.write_str(match self {
+            Refused::NoPages => "the guest has no pages",
+            Refused::ManyPages => "the guest has more than 4096 pages",
+            Refused::ShortMemory => "there is less memory than pages",
+            Refused::ShortRow => "there is no room for 64 letters that wait",
+            Refused::ShortKept => "there is no room for 128 letters that are kept",
+        })
+    }
+}
+
+impl Error for Refused {}
+
 // Where the guest is: it runs there; it was stopped there; it was lost there.
-#[derive(Clone, Copy)]
+#[derive(Clone, Copy, Debug, PartialEq, Eq)]
 pub enum Guest {
     Runs(Who),
     Stands(Who),
     Lost(Who),
 }
 
-// What speaks against so many pages in so much memory.
-fn refusal(pages: u32, memory: usize, row: usize, kept: usize) -> Option<Refused>
-    ensures { result ≡ refusal_of pages memory row kept }
+impl fmt::Display for Guest {
+    ghost output = { λ guest. Some (guest_shown guest) };
+
+    fn fmt<W: fmt::Write>(&self, f: &mut fmt::Formatter<W>) -> fmt::Result {
+        match self {
+            Guest::Runs(host) => write!(f, "runs {host}"),
+            Guest::Stands(host) => write!(f, "stands {host}"),
+            Guest::Lost(host) => write!(f, "lost {host}"),
+        }
+    }
+}
+
+// Whether there may be so many pages in so much memory.
+fn check(pages: u32, memory: usize, row: usize, kept: usize) -> Result<(), Refused>
+    ensures { result_err result ≡ refusal_of pages memory row kept }
 {
     if pages == 0 {
-        return Some(Refused::NoPages);
+        return Err(Refused::NoPages);
     }
     if pages > 4096 {
-        return Some(Refused::ManyPages);
+        return Err(Refused::ManyPages);
     }
     if memory < pages as usize {
-        return Some(Refused::ShortMemory);
+        return Err(Refused::ShortMemory);
     }
     if row < 64 {
-        return Some(Refused::ShortRow);
+        return Err(Refused::ShortRow);
     }
     if kept < 128 {
-        return Some(Refused::ShortKept);
+        return Err(Refused::ShortKept);
     }
-    None
+    Ok(())
 }
 
 #[derive(Drop)]
@@ -92,33 +114,18 @@ impl<'a> Hosts<'a> {
         ensures made { MatchResult result (λ h. Made pages (length events.old) h) (λ e. Some e ≡ refusal_of pages (memory_of zero.entry one.entry (length truth.old)) (row_of zero.entry one.entry) (kept_of zero.entry one.entry)) }
         ensures unless { refusal_of pages (memory_of zero.entry one.entry (length truth.old)) (row_of zero.entry one.entry) (kept_of zero.entry one.entry) ≡ None → is_ok result ≡ true }
     {
-        let Lent {
-            pages: pages0,
-            touched: touched0,
-            row: row0,
-            kept: kept0,
-        } = zero;
-        let Lent {
-            pages: pages1,
-            touched: touched1,
-            row: row1,
-            kept: kept1,
-        } = one;
-        let memory = pages0
+        let memory = zero
+            .pages
             .len()
-            .min(touched0.len())
-            .min(pages1.len())
-            .min(touched1.len())
+            .min(zero.touched.len())
+            .min(one.pages.len())
+            .min(one.touched.len())
             .min(truth.len());
-        let row = row0.len().min(row1.len());
-        let kept = kept0.len().min(kept1.len());
-        if let Some(refused) = refusal(pages, memory, row, kept) {
-            return Err(refused);
-        }
-        let zero = Side::new(pages0, touched0, row0, kept0);
-        let one = Side::new(pages1, touched1, row1, kept1);
+        let row = zero.row.len().min(one.row.len());
+        let kept = zero.kept.len().min(one.kept.len());
+        check(pages, memory, row, kept)?;
         Ok(Hosts {
-            pair: Pair::new(pages, zero, one, truth),
+            pair: Pair::new(pages, Side::new(zero), Side::new(one), truth),
             plan: Plan::new(),
             log: Log::new(events),
         })
@@ -174,9 +181,9 @@ impl<'a> Hosts<'a> {
         ensures { Fell (world_of self.old) self.old.plan (story_of self.old.log) self.new }
     {
         let host = self.pair.turn;
-        let lost = self.pair.runs & self.pair.last.is(host);
+        let lost = self.pair.runs & (self.pair.last == host);
         let wreck = self.plan.wreck();
-        self.pair.fall(wreck.word, wreck.touched);
+        self.pair.fall(wreck);
         self.log.note(Event {
             what: What::Fall,
             host,
@@ -192,7 +199,7 @@ impl<'a> Hosts<'a> {
     // Something is asked. True: the host will fall when it's done.
     fn begin(&mut self) -> Result<bool, Down>
         requires { 0 < (world_of self.old).left }
-        ensures { elim result [ Ok due ↦ Began self.old due self.new | Err _ ↦ ((d : World) (p : Plan) (s : Story) → Follows self.old d p s false self.new) ] }
+        ensures { MatchResult result (λ due. Began self.old due self.new) (λ _. (d : World) (p : Plan) (s : Story) → Follows self.old d p s false self.new) }
     {
         let host = self.pair.turn;
         let fell = self.pair.fell;
@@ -247,33 +254,31 @@ impl<'a> Hosts<'a> {
     }
 
     // A letter to the other host.
-    fn post(&mut self, letter: &[u64])
-        requires { length letter.now ≡ 72 }
+    fn post(&mut self, letter: &[u64; 72])
         ensures sends { Sends (world_of self.old) letter.now (world_of self.new) }
         ensures is { 0 < (world_of self.old).pages → world_of self.new ≡ sent_by (post_of self.old.plan) letter.now (world_of self.old) }
         ensures plan { self.new.plan ≡ posted self.old.plan }
         ensures story { story_of self.new.log ≡ story_of self.old.log }
     {
         let post = self.plan.post();
-        if !self.pair.post(letter, post.lost, post.kept) {
+        if !self.pair.post(letter, post) {
             self.pair.roughen();
         }
     }
 
     // A letter for the host whose turn it is, if it gets one.
-    fn hand(&mut self, into: &mut [u64]) -> bool
-        requires { length into.old ≡ 72 }
-        ensures hands { Hands (hand_of self.old.pair.turn self.old.plan) (world_of self.old) result into.new (world_of self.new) }
+    fn hand(&mut self) -> Option<[u64; 72]>
+        ensures hands { HandsOver (hand_of self.old.pair.turn self.old.plan) (world_of self.old) result (world_of self.new) }
         ensures plan { self.new.plan ≡ handed self.old.pair.turn self.old.plan }
         ensures story { story_of self.new.log ≡ story_of self.old.log }
     {
         match self.plan.hand(self.pair.turn) {
-            Hand::Next => self.pair.next(into),
-            Hand::Again(i) => again(&mut self.pair, i, into),
+            Hand::Next => self.pair.next(),
+            Hand::Again(i) => again(&mut self.pair, i),
             Hand::Mixed(how, i) => {
                 self.pair.mix(how, i as usize);
                 self.pair.roughen();
-                false
+                None
             }
         }
     }
@@ -290,55 +295,84 @@ impl<'a> Hosts<'a> {
 }
 
 // The letter that is kept for the host whose turn it is at place i; the next where none is.
-fn again(pair: &mut Pair, i: u32, into: &mut [u64]) -> bool
-    requires { length into.old ≡ 72 }
-    ensures { Hands (Hand.Again i) (pairWorld pair.old) result into.new (pairWorld pair.new) }
+fn again(pair: &mut Pair, i: u32) -> Option<[u64; 72]>
+    ensures { HandsOver (Hand.Again i) (pairWorld pair.old) result (pairWorld pair.new) }
 {
-    if pair.again(i as usize, into) {
-        pair.roughen();
-        return true;
-    }
-    pair.next(into)
+    let Some(letter) = pair.again(i as usize).copied() else {
+        return pair.next();
+    };
+    pair.roughen();
+    Some(letter)
 }
 
-// What a host may ask, with what is planned for it.
-impl<'a> Hosts<'a> {
-    pub fn ask_page(&mut self, p: u32, into: &mut [u64]) -> Result<(), Down>
-        requires { (0 < (world_of self.old).left) × ((p < (world_of self.old).pages) × (length into.old ≡ 64)) }
-        ensures does { Does (world_of self.old) (world_of self.old) (is_ok result) (world_of self.new) }
-        ensures value { is_ok result ≡ true → into.new ≡ (me (world_of self.old)).page p }
+// As many words as there are, as an array.
+fn whole<const N: usize>(words: &[u64]) -> &[u64; N]
+    requires { length words.now ≡ N }
+    ensures { result.now ≡ words.now }
+{
+    words.as_array().unwrap()
+}
+
+// A letter, if it is one, is put where it's asked for; whether it is one.
+fn put_into(letter: Option<[u64; 72]>, into: &mut [u64]) -> bool
+    requires { length into.old ≡ 72 }
+    ensures { MatchOption letter (result ≡ false) (λ l. (result ≡ true) × (into.new ≡ l)) }
+{
+    match letter {
+        Some(letter) => {
+            into.copy_from_slice(&letter);
+            true
+        }
+        None => false,
+    }
+}
+
+// What a host may ask: what the trait says of it, and what is planned for it.
+impl<'a> Place for Hosts<'a> {
+    ghost world = { world_of };
+
+    fn pages(&self) -> u32 {
+        self.pair.count()
+    }
+
+    fn page(&mut self, p: u32, into: &mut [u64]) -> Result<(), Down>
+        requires left { 0 < (world_of self.old).left }
+        requires inside { p < (world_of self.old).pages }
+        requires long { length into.old ≡ 64 }
+        ensures does { (Does (world_of self.old) (world_of self.old) (is_ok result) (world_of self.new)) × ((is_ok result ≡ true → into.new ≡ (me (world_of self.old)).page p)) }
         ensures planned { Plain self.old (world_of self.old) (is_ok result) self.new }
     {
         let due = self.begin()?;
-        self.pair.page(p as usize, into);
+        into.copy_from_slice(self.pair.page(p as usize));
         self.end(due)
     }
 
-    pub fn ask_put(&mut self, p: u32, words: &[u64]) -> Result<(), Down>
-        requires { (0 < (world_of self.old).left) × ((p < (world_of self.old).pages) × (length words.now ≡ 64)) }
+    fn put(&mut self, p: u32, words: &[u64]) -> Result<(), Down>
+        requires left { 0 < (world_of self.old).left }
+        requires inside { p < (world_of self.old).pages }
+        requires long { length words.now ≡ 64 }
         ensures does { Does (world_of self.old) (put_page p words.now (world_of self.old)) (is_ok result) (world_of self.new) }
         ensures planned { Plain self.old (put_page p words.now (world_of self.old)) (is_ok result) self.new }
     {
+        let words = whole(words);
         let due = self.begin()?;
         self.pair.put(p as usize, words);
         self.end(due)
     }
 
-    pub fn ask_touched(&mut self, p: u32) -> Result<bool, Down>
-        requires { (0 < (world_of self.old).left) × (p < (world_of self.old).pages) }
-        ensures does { Does (world_of self.old) (untouched p (world_of self.old)) (is_ok result) (world_of self.new) }
-        ensures value { is_ok result ≡ true → result ≡ Ok ((me (world_of self.old)).touched p) }
+    fn touched(&mut self, p: u32) -> Result<bool, Down>
+        requires left { 0 < (world_of self.old).left }
+        requires inside { p < (world_of self.old).pages }
+        ensures does { (Does (world_of self.old) (untouched p (world_of self.old)) (is_ok result) (world_of self.new)) × ((is_ok result ≡ true → result ≡ Ok ((me (world_of self.old)).touched p))) }
         ensures planned { Plain self.old (untouched p (world_of self.old)) (is_ok result) self.new }
     {
         let due = self.begin()?;
         let value = self.pair.untouch(p as usize);
-        match self.end(due) {
-            Ok(()) => Ok(value),
-            Err(Down) => Err(Down),
-        }
+        self.end(due)?;
+        Ok(value)
     }
 
-    pub fn ask_stop(&mut self) -> Result<(), Down>
+    fn stop(&mut self) -> Result<(), Down>
         requires { 0 < (world_of self.old).left }
         ensures does { Does (world_of self.old) (stopped (world_of self.old)) (is_ok result) (world_of self.new) }
         ensures planned { Tells What.Stop self.old (stopped (world_of self.old)) (is_ok result) self.new }
@@ -349,7 +383,7 @@ impl<'a> Hosts<'a> {
         self.end(due)
     }
 
-    pub fn ask_resume(&mut self, x: u64) -> Result<(), Down>
+    fn resume(&mut self, x: u64) -> Result<(), Down>
         requires { 0 < (world_of self.old).left }
         ensures does { Does (world_of self.old) (resumed x (world_of self.old)) (is_ok result) (world_of self.new) }
         ensures planned { Tells What.Resume self.old (resumed x (world_of self.old)) (is_ok result) self.new }
@@ -360,36 +394,32 @@ impl<'a> Hosts<'a> {
         self.end(due)
     }
 
-    pub fn ask_told(&mut self) -> Result<bool, Down>
+    fn told(&mut self) -> Result<bool, Down>
         requires { 0 < (world_of self.old).left }
-        ensures does { Does (world_of self.old) (heard (world_of self.old)) (is_ok result) (world_of self.new) }
-        ensures value { is_ok result ≡ true → result ≡ Ok (me (world_of self.old)).told }
+        ensures does { (Does (world_of self.old) (heard (world_of self.old)) (is_ok result) (world_of self.new)) × ((is_ok result ≡ true → result ≡ Ok (me (world_of self.old)).told)) }
         ensures planned { Plain self.old (heard (world_of self.old)) (is_ok result) self.new }
     {
         let due = self.begin()?;
         let value = self.pair.hear();
-        match self.end(due) {
-            Ok(()) => Ok(value),
-            Err(Down) => Err(Down),
-        }
+        self.end(due)?;
+        Ok(value)
     }
 
-    pub fn ask_get(&mut self, c: u32) -> Result<u64, Down>
-        requires { (0 < (world_of self.old).left) × (c < 64) }
-        ensures does { Does (world_of self.old) (world_of self.old) (is_ok result) (world_of self.new) }
-        ensures value { is_ok result ≡ true → result ≡ Ok ((me (world_of self.old)).cell c) }
+    fn get(&mut self, c: u32) -> Result<u64, Down>
+        requires left { 0 < (world_of self.old).left }
+        requires cell { c < 64 }
+        ensures does { (Does (world_of self.old) (world_of self.old) (is_ok result) (world_of self.new)) × ((is_ok result ≡ true → result ≡ Ok ((me (world_of self.old)).cell c))) }
         ensures planned { Plain self.old (world_of self.old) (is_ok result) self.new }
     {
         let due = self.begin()?;
         let value = self.pair.cell(c as usize);
-        match self.end(due) {
-            Ok(()) => Ok(value),
-            Err(Down) => Err(Down),
-        }
+        self.end(due)?;
+        Ok(value)
     }
 
-    pub fn ask_keep(&mut self, c: u32, x: u64) -> Result<(), Down>
-        requires { (0 < (world_of self.old).left) × (c < 64) }
+    fn keep(&mut self, c: u32, x: u64) -> Result<(), Down>
+        requires left { 0 < (world_of self.old).left }
+        requires cell { c < 64 }
         ensures does { Does (world_of self.old) (kept c x (world_of self.old)) (is_ok result) (world_of self.new) }
         ensures planned { Plain self.old (kept c x (world_of self.old)) (is_ok result) self.new }
     {
@@ -398,59 +428,48 @@ impl<'a> Hosts<'a> {
         self.end(due)
     }
 
-    pub fn ask_send(&mut self, letter: &[u64]) -> Result<(), Down>
-        requires { (0 < (world_of self.old).left) × (length letter.now ≡ 72) }
+    fn send(&mut self, letter: &[u64]) -> Result<(), Down>
+        requires left { 0 < (world_of self.old).left }
+        requires long { length letter.now ≡ 72 }
         ensures posts { Posts (world_of self.old) letter.now (is_ok result) (world_of self.new) }
         ensures planned { 0 < (world_of self.old).pages → SentAs self.old letter.now (is_ok result) self.new }
     {
-        let due = match self.begin() {
-            Ok(due) => due,
-            Err(Down) => return Err(Down),
-        };
+        let letter = whole(letter);
+        let due = self.begin()?;
         self.post(letter);
         self.end(due)
     }
 
-    pub fn ask_recv(&mut self, into: &mut [u64]) -> Result<bool, Down>
-        requires { (0 < (world_of self.old).left) × (length into.old ≡ 72) }
+    fn recv(&mut self, into: &mut [u64]) -> Result<bool, Down>
+        requires left { 0 < (world_of self.old).left }
+        requires long { length into.old ≡ 72 }
         ensures gets { Gets (world_of self.old) result into.new (world_of self.new) }
-        ensures planned { elim result [ Ok b ↦ Hears self.old b into.new true self.new | Err _ ↦ FallsHearing self.old self.new ] }
+        ensures planned { MatchResult result (λ b. Hears self.old b into.new true self.new) (λ _. FallsHearing self.old self.new) }
     {
-        let due = match self.begin() {
-            Ok(due) => due,
-            Err(Down) => return Err(Down),
-        };
-        let got = self.hand(into);
-        match self.end(due) {
-            Ok(()) => Ok(got),
-            Err(Down) => Err(Down),
-        }
+        let due = self.begin()?;
+        let got = put_into(self.hand(), into);
+        self.end(due)?;
+        Ok(got)
     }
 }
 
-// What no host sees, with what is planned for it.
-impl<'a> Hosts<'a> {
-    pub fn sky_seat(&mut self, i: u32) -> bool
+// What no host sees: what the trait says of it, and what else is so.
+impl<'a> Sky for Hosts<'a> {
+    fn seat(&mut self, i: u32) -> bool
         requires { (world_of self.old).fell ≡ false }
         ensures seated { T result → world_of self.new ≡ seated i (world_of self.old) }
         ensures two { result ≡ nat_lt i 2 }
         ensures stays { result ≡ false → world_of self.new ≡ world_of self.old }
         ensures same { (self.new.plan ≡ self.old.plan) × (story_of self.new.log ≡ story_of self.old.log) }
     {
-        match i {
-            0 => {
-                self.pair.seat(Who::Zero);
-                true
-            }
-            1 => {
-                self.pair.seat(Who::One);
-                true
-            }
-            _ => false,
-        }
+        let Ok(who) = Who::try_from(i) else {
+            return false;
+        };
+        self.pair.seat(who);
+        true
     }
 
-    pub fn sky_renew(&mut self)
+    fn renew(&mut self)
         requires { (world_of self.old).fell ≡ true }
         ensures renewed { world_of self.new ≡ renewed (world_of self.old) }
         ensures same { (self.new.plan ≡ self.old.plan) × (story_of self.new.log ≡ story_of self.old.log) }
@@ -458,7 +477,7 @@ impl<'a> Hosts<'a> {
         self.pair.renew();
     }
 
-    pub fn sky_between(&mut self)
+    fn between(&mut self)
         ensures between { Between (world_of self.old) (world_of self.new) }
         ensures planned { BetweenAs self.old self.new }
     {
@@ -468,77 +487,11 @@ impl<'a> Hosts<'a> {
         self.fill(write);
     }
 
-    pub fn sky_round(&mut self)
+    fn round(&mut self)
         requires { T (InTime (world_of self.old)) }
         ensures rounded { world_of self.new ≡ rounded (world_of self.old) }
         ensures same { (self.new.plan ≡ self.old.plan) × (story_of self.new.log ≡ story_of self.old.log) }
     {
         self.pair.round();
-    }
-}
-
-impl<'a> Place for Hosts<'a> {
-    ghost world = { world_of };
-
-    fn pages(&self) -> u32 {
-        self.pair.count()
-    }
-
-    fn page(&mut self, p: u32, into: &mut [u64]) -> Result<(), Down> {
-        self.ask_page(p, into)
-    }
-
-    fn put(&mut self, p: u32, words: &[u64]) -> Result<(), Down> {
-        self.ask_put(p, words)
-    }
-
-    fn touched(&mut self, p: u32) -> Result<bool, Down> {
-        self.ask_touched(p)
-    }
-
-    fn stop(&mut self) -> Result<(), Down> {
-        self.ask_stop()
-    }
-
-    fn resume(&mut self, x: u64) -> Result<(), Down> {
-        self.ask_resume(x)
-    }
-
-    fn told(&mut self) -> Result<bool, Down> {
-        self.ask_told()
-    }
-
-    fn get(&mut self, c: u32) -> Result<u64, Down> {
-        self.ask_get(c)
-    }
-
-    fn keep(&mut self, c: u32, x: u64) -> Result<(), Down> {
-        self.ask_keep(c, x)
-    }
-
-    fn send(&mut self, letter: &[u64]) -> Result<(), Down> {
-        self.ask_send(letter)
-    }
-
-    fn recv(&mut self, into: &mut [u64]) -> Result<bool, Down> {
-        self.ask_recv(into)
-    }
-}
-
-impl<'a> Sky for Hosts<'a> {
-    fn seat(&mut self, i: u32) -> bool {
-        self.sky_seat(i)
-    }
-
-    fn renew(&mut self) {
-        self.sky_renew()
-    }
-
-    fn between(&mut self) {
-        self.sky_between()
-    }
-
-    fn round(&mut self) {
-        self.sky_round()
     }
 }

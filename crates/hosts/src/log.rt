@@ -1,10 +1,11 @@
 // What happened, in the order in which it did, in memory that is lent; what there is no room for is counted.
-ghost use Rattle.std.specs.Prelude.{◌≡◌, ℕ, ◌<◌, ◌≤◌, [], length, MatchOption, slice_index_or};
-ghost use Rattle.hosts.specs.Stories.{story_of, noted};
+ghost use Rattle.std.specs.Prelude.{◌≡◌, Some, [], length, min, take};
+ghost use Rattle.hosts.specs.Stories.{story_of, noted, printed};
 
-use side::Who;
+use std::fmt;
+use who::Who;
 
-#[derive(Clone, Copy, PartialEq, Eq)]
+#[derive(Clone, Copy, Debug, PartialEq, Eq)]
 pub enum What {
     // the guest was stopped
     Stop,
@@ -16,10 +17,24 @@ pub enum What {
     Lost,
 }
 
-#[derive(Clone, Copy)]
+#[derive(Clone, Copy, Debug, PartialEq, Eq)]
 pub struct Event {
     pub what: What,
     pub host: Who,
+}
+
+// What happened, and to which host; that the guest was lost follows the fall of its host, and is printed without it.
+impl fmt::Display for Event {
+    ghost output = { λ event. Some (printed event.what event.host) };
+
+    fn fmt<W: fmt::Write>(&self, f: &mut fmt::Formatter<W>) -> fmt::Result {
+        match self.what {
+            What::Stop => write!(f, "stop {}", self.host),
+            What::Resume => write!(f, "resume {}", self.host),
+            What::Fall => write!(f, "fall {}", self.host),
+            What::Lost => write!(f, "lost"),
+        }
+    }
 }
 
 #[derive(Drop)]
@@ -53,14 +68,12 @@ impl<'a> Log<'a> {
         self.missed = self.missed.saturating_add(1);
     }
 
-    // What happened as the i-th thing, from 0.
-    pub fn at(&self, i: usize) -> Option<Event>
-        ensures { MatchOption result (length (story_of self.now).events ≤ i) (λ e. (i < length (story_of self.now).events) × (e ≡ slice_index_or (story_of self.now).events i e)) }
+    // What happened, in the order in which it did.
+    pub fn events(&self) -> &[Event]
+        ensures { result.now ≡ (story_of self.now).events }
     {
-        if i >= self.count.min(self.events.len()) {
-            return None;
-        }
-        Some(self.events[i])
+        let told = self.count.min(self.events.len());
+        &self.events[..told]
     }
 
     // How many things happened for which there was no room.

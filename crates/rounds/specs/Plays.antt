@@ -5,15 +5,14 @@ use Rattle.moving.specs.declared.Node.{Node}
 use Rattle.moving.specs.Hosts.{World, seated}
 use Rattle.moving.specs.Model.{Rested}
 use Rattle.moving.specs.Invariant.{Whole}
-use Rattle.rounds.specs.declared.Play.{Play}
 
--- Between rounds: nobody has fallen, and the two nodes and the world are whole, with numbers that have grown by 128 a round at most.
-pub record Playing (p : Play) (w : World) : Type 0 where
+-- Between rounds: nobody has fallen, and the nodes of both hosts and the world are whole, with numbers that have grown by 128 a round at most.
+pub record Playing (n o : Node) (rounds : ℕ) (w : World) : Type 0 where
   pub up : w.fell ≡ false
-  pub zero : Rested p.zero
-  pub one : Rested p.one
-  pub few : p.rounds < 281474976710656
-  pub whole : Whole 0 (128 * p.rounds) [] p.zero p.one (seated 0 w)
+  pub zero : Rested n
+  pub one : Rested o
+  pub few : rounds < 281474976710656
+  pub whole : Whole 0 (128 * rounds) [] n o (seated 0 w)
 
 -- A turn of host i begins: there is another node with which all is whole, and room for numbers to grow.
 pub record Begins (i : ℕ) (n : Node) (w : World) : Type 0 where

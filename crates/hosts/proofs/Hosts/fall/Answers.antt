@@ -5,6 +5,7 @@ use Rattle.hosts.specs.Stories.{noted, story_of}
 use Rattle.hosts.specs.Follows.{world_of}
 use Rattle.pair.specs.Worlds as pair
 use Rattle.pair.specs.Worlds.{FallenWith}
+use Rattle.pair.proofs.Sides.{same_host}
 use Rattle.hosts.proofs.Plans.{who_numb}
 use Rattle.hosts.proofs.Hosts.fall.Goals as goal
 
@@ -17,7 +18,7 @@ returns-then-lost c =
       story =
           c.note-then-lost.ensures ∙ ap (noted _) c.note.ensures
           ∙ ap (λ v. noted (record { what = Lost; host = v }) (noted (record { what = Fall; host = v }) (story_of h.log))) (who_numb h.pair.turn)
-          ∙ sym (cond-true _ _ _ (ap (λ b. h.pair.runs && b) (sym c.is.ensures) ∙ c.if-lost.true));
+          ∙ sym (cond-true _ _ _ (ap (λ b. h.pair.runs && b) (sym (c.eq.ensures ∙ same_host _ _)) ∙ c.if-lost.true));
     }
 
 pub returns-else-lost : goal.returns-else-lost
@@ -29,5 +30,5 @@ returns-else-lost c =
       story =
           c.note.ensures
           ∙ ap (λ v. noted (record { what = Fall; host = v }) (story_of h.log)) (who_numb h.pair.turn)
-          ∙ sym (cond-false _ _ _ (ap (λ b. h.pair.runs && b) (sym c.is.ensures) ∙ c.if-lost.false));
+          ∙ sym (cond-false _ _ _ (ap (λ b. h.pair.runs && b) (sym (c.eq.ensures ∙ same_host _ _)) ∙ c.if-lost.false));
     }

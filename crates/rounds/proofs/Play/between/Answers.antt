@@ -3,12 +3,7 @@ use Rattle.moving.proofs.Falls.{between_fell}
 use Rattle.moving.proofs.Steps.{between_whole}
 use Rattle.rounds.proofs.Play.between.Goals as goal
 
-pub returns : goal.returns
-returns c =
-    record {
-      up = between_fell c.between.ensures ∙ c.requires.up;
-      zero = c.requires.zero;
-      one = c.requires.one;
-      few = c.requires.few;
-      whole = between_whole c.between.ensures c.requires.whole;
-    }
+pub invariant_of-self : goal.invariant_of-self
+invariant_of-self c =
+    let p = c.self.invariant in
+    record { up = between_fell c.between.ensures.between ∙ p.up; zero = p.zero; one = p.one; few = p.few; whole = between_whole c.between.ensures.between p.whole }

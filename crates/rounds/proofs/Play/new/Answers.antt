@@ -7,9 +7,9 @@ use Rattle.moving.proofs.Rounds.{fresh_rested}
 use Rattle.hosts.specs.Follows.{world_of}
 use Rattle.rounds.proofs.Play.new.Goals as goal
 
-pub returns : goal.returns
-returns c =
-    let w = world_of c.args.hosts.now in
+pub invariant_of-result : goal.invariant_of-result
+invariant_of-result c =
+    let w = world_of c.args.hosts in
     let a = sym c.new.ensures in
     let b = sym c.new-2.ensures in
     record {
