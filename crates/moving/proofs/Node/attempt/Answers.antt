@@ -11,7 +11,7 @@ returns-in_err-keep-clause-keeps g c =
     let t = c.new-transfer.ensures in
     let a = c.next_attempt-t.ensures in
     ends_err 2 2 _ c.from_residual.result e (omega arith) (begin [] n w c.requires.soon.up) c.in_err-keep.ensures.does
-          (λ i z o h. new_whole n c.new-transfer.result c.next_attempt-t.result c.pages.result c.requires.wanted c.requires.tidy.awake a.0 a.1.0 a.1.1 t.attempt t.window.1.0 t.window.1.1 c.pages.ensures t.unsent h)
+    (λ i z o h. new_whole n c.new-transfer.result c.next_attempt-t.result c.pages.result c.requires.wanted c.requires.tidy.awake a.0 a.1.0 a.1.1 t.attempt t.window.1.0 t.window.1.1 c.pages.ensures t.unsent h)
 
 pub returns-clause-keeps : goal.returns-clause-keeps
 returns-clause-keeps g c =
@@ -20,4 +20,4 @@ returns-clause-keeps g c =
     let t = c.new-transfer.ensures in
     let a = c.next_attempt-t.ensures in
     ends_ok 2 (omega arith) (then_ok 2 (begin [] n w c.requires.soon.up) c.in_ok-keep.ensures.does refl
-          (λ i z o h. new_whole n c.new-transfer.result c.next_attempt-t.result c.pages.result c.requires.wanted c.requires.tidy.awake a.0 a.1.0 a.1.1 t.attempt t.window.1.0 t.window.1.1 c.pages.ensures t.unsent h))
+    (λ i z o h. new_whole n c.new-transfer.result c.next_attempt-t.result c.pages.result c.requires.wanted c.requires.tidy.awake a.0 a.1.0 a.1.1 t.attempt t.window.1.0 t.window.1.1 c.pages.ensures t.unsent h))

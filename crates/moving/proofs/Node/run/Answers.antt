@@ -46,11 +46,11 @@ go_on-requires-clause-ready g c =
     let y = c.tick-transfer.result in
     let e : y ≡ ticked c.in_ok-attempt.field-0 = c.tick-transfer.ensures in
     record {
-        n = on_state (Copying y) c.attempt.new.self;
-        has = refl;
-        ready = ways.ready c.requires.ready (omega arith)
-            (then_ticks c.attempt.new.self c.in_ok-attempt.field-0 y e (then_call (then_call (begin [] (on_state (Running c.args.x) c.args.self.now) (g.P.Place.world c.args.w.now) c.requires.soon.up) q.used.fell q.keeps) r.used.fell r.keeps));
-      }
+      n = on_state (Copying y) c.attempt.new.self;
+      has = refl;
+      ready = ways.ready c.requires.ready (omega arith)
+          (then_ticks c.attempt.new.self c.in_ok-attempt.field-0 y e (then_call (then_call (begin [] (on_state (Running c.args.x) c.args.self.now) (g.P.Place.world c.args.w.now) c.requires.soon.up) q.used.fell q.keeps) r.used.fell r.keeps));
+    }
 
 pub returns-in_err-go_on-clause-keeps : goal.returns-in_err-go_on-clause-keeps
 returns-in_err-go_on-clause-keeps g c =
@@ -59,8 +59,8 @@ returns-in_err-go_on-clause-keeps g c =
     let y = c.tick-transfer.result in
     let e = c.from_residual-in_err-go_on.ensures.0 in
     ends_call 64 _ c.from_residual-in_err-go_on.result e
-          (then_ticks c.attempt.new.self c.in_ok-attempt.field-0 y c.tick-transfer.ensures (then_call (then_call (begin [] (on_state (Running c.args.x) c.args.self.now) (g.P.Place.world c.args.w.now) c.requires.soon.up) q.used.fell q.keeps) r.used.fell r.keeps))
-          (c.in_err-go_on.ensures.keeps (on_state (Copying y) c.attempt.new.self) refl) (omega arith)
+    (then_ticks c.attempt.new.self c.in_ok-attempt.field-0 y c.tick-transfer.ensures (then_call (then_call (begin [] (on_state (Running c.args.x) c.args.self.now) (g.P.Place.world c.args.w.now) c.requires.soon.up) q.used.fell q.keeps) r.used.fell r.keeps))
+    (c.in_err-go_on.ensures.keeps (on_state (Copying y) c.attempt.new.self) refl) (omega arith)
 
 pub returns-clause-tidy : goal.returns-clause-tidy
 returns-clause-tidy g c =
@@ -76,7 +76,7 @@ returns-clause-is g c =
     let p = subst (λ z. New z (on_state (Running (record { wanted = c.in_ok-wants.field-0 })) c.args.self.now) c.in_ok-attempt.field-0) q.used.pages (subst (λ (k : Node). New (g.P.Place.world c.wants.new.w).pages k c.in_ok-attempt.field-0) q.is r.pass) in
     let k = still_then q.line r.line in
     begins c.in_ok-attempt.field-0 (sym q.value ∙ c.if-not-branch.false) (record { above = p.above; least = p.least; own = p.own; empty = p.empty; base = p.base; all = p.all; cursor = p.cursor; sent = p.sent; turns = p.turns; prev = p.prev })
-          (record { after = c.go_on.new.self; goes = subst (λ d. GoneOn (g.P.Place.world c.args.w.now).pages (c.args.most - 2) d c.go_on.new.self) c.tick-transfer.ensures (subst (λ p. GoneOn p (c.args.most - 2) y c.go_on.new.self) (r.used.pages ∙ q.used.pages) c.in_ok-go_on.ensures.is); node = ap (on_state (Copying c.go_on.new.self)) (r.is ∙ ap (λ (k : Node). on_top c.in_ok-attempt.field-0.attempt k.state k) q.is) })
+    (record { after = c.go_on.new.self; goes = subst (λ d. GoneOn (g.P.Place.world c.args.w.now).pages (c.args.most - 2) d c.go_on.new.self) c.tick-transfer.ensures (subst (λ p. GoneOn p (c.args.most - 2) y c.go_on.new.self) (r.used.pages ∙ q.used.pages) c.in_ok-go_on.ensures.is); node = ap (on_state (Copying c.go_on.new.self)) (r.is ∙ ap (λ (k : Node). on_top c.in_ok-attempt.field-0.attempt k.state k) q.is) })
 
 pub returns-clause-makes : goal.returns-clause-makes
 returns-clause-makes g c =
@@ -86,7 +86,7 @@ returns-clause-makes g c =
     let p = subst (λ z. New z (on_state (Running (record { wanted = c.in_ok-wants.field-0 })) c.args.self.now) c.in_ok-attempt.field-0) q.used.pages (subst (λ (k : Node). New (g.P.Place.world c.wants.new.w).pages k c.in_ok-attempt.field-0) q.is r.pass) in
     let k = still_then q.line r.line in
     Over.RunOver.begins c.in_ok-attempt.field-0 (sym q.value ∙ c.if-not-branch.false) (record { above = p.above; least = p.least; own = p.own; empty = p.empty; base = p.base; all = p.all; cursor = p.cursor; sent = p.sent; turns = p.turns; prev = p.prev })
-          (record { after = c.go_on.new.self; goes = subst (λ d. GoneOn (g.P.Place.world c.args.w.now).pages (c.args.most - 2) d c.go_on.new.self) c.tick-transfer.ensures (subst (λ p. GoneOn p (c.args.most - 2) y c.go_on.new.self) (r.used.pages ∙ q.used.pages) c.in_ok-go_on.ensures.is); within = subst (λ d. Within (g.P.Place.world c.args.w.now).pages d c.go_on.new.self) c.tick-transfer.ensures (subst (λ p. Within p y c.go_on.new.self) (r.used.pages ∙ q.used.pages) c.in_ok-go_on.ensures.within); went = subst (λ d. Went d (g.P.Place.world c.args.w.now) c.go_on.new.self (g.P.Place.world c.go_on.new.w)) c.tick-transfer.ensures (went_after k.calmly (r.used.pages ∙ q.used.pages) k.own k.far c.in_ok-go_on.ensures.line.0); node = ap (on_state (Copying c.go_on.new.self)) (r.is ∙ ap (λ (k : Node). on_top c.in_ok-attempt.field-0.attempt k.state k) q.is) })
+    (record { after = c.go_on.new.self; goes = subst (λ d. GoneOn (g.P.Place.world c.args.w.now).pages (c.args.most - 2) d c.go_on.new.self) c.tick-transfer.ensures (subst (λ p. GoneOn p (c.args.most - 2) y c.go_on.new.self) (r.used.pages ∙ q.used.pages) c.in_ok-go_on.ensures.is); within = subst (λ d. Within (g.P.Place.world c.args.w.now).pages d c.go_on.new.self) c.tick-transfer.ensures (subst (λ p. Within p y c.go_on.new.self) (r.used.pages ∙ q.used.pages) c.in_ok-go_on.ensures.within); went = subst (λ d. Went d (g.P.Place.world c.args.w.now) c.go_on.new.self (g.P.Place.world c.go_on.new.w)) c.tick-transfer.ensures (went_after k.calmly (r.used.pages ∙ q.used.pages) k.own k.far c.in_ok-go_on.ensures.line.0); node = ap (on_state (Copying c.go_on.new.self)) (r.is ∙ ap (λ (k : Node). on_top c.in_ok-attempt.field-0.attempt k.state k) q.is) })
 
 pub returns-clause-keeps : goal.returns-clause-keeps
 returns-clause-keeps g c =
@@ -94,5 +94,5 @@ returns-clause-keeps g c =
     let r = c.in_ok-attempt.ensures in
     let y = c.tick-transfer.result in
     ends_ok 64 (omega arith)
-          (then_call (then_ticks c.attempt.new.self c.in_ok-attempt.field-0 y c.tick-transfer.ensures (then_call (then_call (begin [] (on_state (Running c.args.x) c.args.self.now) (g.P.Place.world c.args.w.now) c.requires.soon.up) q.used.fell q.keeps) r.used.fell r.keeps))
-          c.in_ok-go_on.ensures.used.fell (c.in_ok-go_on.ensures.keeps (on_state (Copying y) c.attempt.new.self) refl))
+    (then_call (then_ticks c.attempt.new.self c.in_ok-attempt.field-0 y c.tick-transfer.ensures (then_call (then_call (begin [] (on_state (Running c.args.x) c.args.self.now) (g.P.Place.world c.args.w.now) c.requires.soon.up) q.used.fell q.keeps) r.used.fell r.keeps))
+    c.in_ok-go_on.ensures.used.fell (c.in_ok-go_on.ensures.keeps (on_state (Copying y) c.attempt.new.self) refl))

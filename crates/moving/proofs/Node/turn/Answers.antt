@@ -87,21 +87,21 @@ returns-clause-makes g c =
     let a = c.in_ok-act.ensures in
     let y = c.in_ok-reply.ensures in
     record {
-        heard = c.hear.new.self;
-        acted = c.act.new.self;
-        quiet = g.P.Place.world c.hear.new.w;
-        done = g.P.Place.world c.act.new.w;
-        most = c.in_ok-left-2.left - 1;
-        enough = omega arith;
-        letters = subst (λ p. Heard p (woken ((me w).cell 0) ((me w).cell 1) ((me w).cell 2) n) c.hear.new.self) k.used.pages (subst (λ z. Heard (g.P.Place.world c.wake.new.w).pages z c.hear.new.self) k.is l.is);
-        hears = heard_after k.line (subst (λ p. HeardAll p (woken ((me w).cell 0) ((me w).cell 1) ((me w).cell 2) n) (g.P.Place.world c.wake.new.w) c.hear.new.self (g.P.Place.world c.hear.new.w)) k.used.pages (subst (λ z. HeardAll (g.P.Place.world c.wake.new.w).pages z (g.P.Place.world c.wake.new.w) c.hear.new.self (g.P.Place.world c.hear.new.w)) k.is l.line));
-        cost = λ aw q. let f = k.full aw in let d = l.cost q in let e = ap length k.line.own in omega arith;
-        acts = subst (λ p. ActedOver p (c.in_ok-left-2.left - 1) (me (g.P.Place.world c.hear.new.w)).told c.hear.new.self.state (on_state Away c.hear.new.self) (g.P.Place.world c.hear.new.w) c.act.new.self (g.P.Place.world c.act.new.w)) (l.used.pages ∙ k.used.pages) a.makes;
-        replies = y.line;
-        node = y.is;
-        awake = ap (λ m. m.awake) y.is ∙ a.tidy.awake;
-        mid = λ i z o h. more_whole (omega arith) (t.whole i z o h);
-      }
+      heard = c.hear.new.self;
+      acted = c.act.new.self;
+      quiet = g.P.Place.world c.hear.new.w;
+      done = g.P.Place.world c.act.new.w;
+      most = c.in_ok-left-2.left - 1;
+      enough = omega arith;
+      letters = subst (λ p. Heard p (woken ((me w).cell 0) ((me w).cell 1) ((me w).cell 2) n) c.hear.new.self) k.used.pages (subst (λ z. Heard (g.P.Place.world c.wake.new.w).pages z c.hear.new.self) k.is l.is);
+      hears = heard_after k.line (subst (λ p. HeardAll p (woken ((me w).cell 0) ((me w).cell 1) ((me w).cell 2) n) (g.P.Place.world c.wake.new.w) c.hear.new.self (g.P.Place.world c.hear.new.w)) k.used.pages (subst (λ z. HeardAll (g.P.Place.world c.wake.new.w).pages z (g.P.Place.world c.wake.new.w) c.hear.new.self (g.P.Place.world c.hear.new.w)) k.is l.line));
+      cost = λ aw q. let f = k.full aw in let d = l.cost q in let e = ap length k.line.own in omega arith;
+      acts = subst (λ p. ActedOver p (c.in_ok-left-2.left - 1) (me (g.P.Place.world c.hear.new.w)).told c.hear.new.self.state (on_state Away c.hear.new.self) (g.P.Place.world c.hear.new.w) c.act.new.self (g.P.Place.world c.act.new.w)) (l.used.pages ∙ k.used.pages) a.makes;
+      replies = y.line;
+      node = y.is;
+      awake = ap (λ m. m.awake) y.is ∙ a.tidy.awake;
+      mid = λ i z o h. more_whole (omega arith) (t.whole i z o h);
+    }
 
 pub returns-clause-keeps : goal.returns-clause-keeps
 returns-clause-keeps g c =
