@@ -4,7 +4,7 @@ use Rattle.moving.specs.Calm.{Within}
 use Rattle.moving.specs.Scan.{Scanned}
 use Rattle.moving.proofs.Passes.{went_on, asked_none}
 use Rattle.moving.proofs.Ways as ways
-use Rattle.moving.proofs.Ways.{SoFar, begin, then_call, posted, posts_ends, ends_ok, ends_call, unmade, less_ready}
+use Rattle.moving.proofs.Ways.{SoFar, begin, then_call, posted, posts_ends, ends_ok, ends_call, unmade}
 use Rattle.moving.proofs.Carries.{probes, probes_err}
 use Rattle.moving.proofs.state.Transfer.go_on.Goals as goal
 
