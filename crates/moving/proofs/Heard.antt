@@ -1,6 +1,7 @@
 -- What a letter makes of a node: all stays whole, and what holds of the node alone.
 -- Assumes nothing.
 use Rattle.std.proofs.Common.{◌≡◌, ℕ, ◌+◌, ◌-◌, ◌%◌, ◌<◌, ◌≤◌, Bool, true, false, cond, ◌&&◌, eqb, ltb, leb, List, [], ◌∷◌, ◌++◌, length, Some, Ok, sym, refl, ap, ◌∙◌, subst, subst₂, inl, inr, arith, ltb-true, eqb-true, leb-true}
+use Rattle.std.proofs.lemmas.List.{length-drop, get_or-drop}
 use mathlib.Core.Path.{subst⁻¹}
 use mathlib.Core.List.Memᴰ
 use Rattle.std.proofs.lemmas.Bool.{and_parts}
@@ -9,7 +10,6 @@ use Rattle.letter.specs.declared.Letter.{Letter}
 use Rattle.letter.specs.Words.{number, spelt, letter_of}
 use Rattle.letter.proofs.Spell.{written_read}
 use Rattle.window.specs.Pages.{Sound, dropped}
-use Rattle.window.proofs.Slots.{dropped_sound, dropped_slot}
 use Rattle.moving.specs.declared.Node.{Node}
 use Rattle.moving.specs.declared.state.Transfer.{Transfer}
 use Rattle.moving.specs.declared.state.Receiving.{Receiving as Reception}
