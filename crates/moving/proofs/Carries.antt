@@ -63,10 +63,6 @@ sends_page {w = w} {v = v} c place page ws r low high e up d p s n has =
     posts_ends 0 (λ _. carrying c n) r (omega arith) (λ _ _. carry_self n c has) (then_ok 0 (begin [] n w up) d refl (fine (λ i z o h. h)))
     (λ i z o h. page_legit (spelt (record { kind = Page; attempt = c.attempt; place = place; page = page; words = ws })) c (place - c.window.base) has refl refl (omega arith) (omega arith) e (step_page d page ws p) h.both) s
 
--- A LOOK AT A PAGE
-false_and : (a : Bool) → (false && a) ≡ false
-false_and a = refl
-
 -- the page at the cursor went into the window
 pub pushed_by : (c d : Transfer) → Below c → d.attempt ≡ c.attempt → d.window ≡ pushed c.cursor c.window → ((q : ℕ) → member d.unsent q ≡ (not (eqb q c.cursor) && member c.unsent q)) → Pushed c d c.cursor
 pushed_by c d below at win un =

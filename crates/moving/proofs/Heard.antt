@@ -1,17 +1,15 @@
 -- What a letter makes of a node: all stays whole, and what holds of the node alone.
 -- Assumes nothing.
-use Rattle.std.proofs.Common.{◌≡◌, ℕ, ◌+◌, ◌-◌, ◌%◌, ◌<◌, ◌≤◌, Bool, true, false, cond, ◌&&◌, eqb, ltb, leb, List, [], ◌∷◌, ◌++◌, length, is_ok, is_err, Some, None, Ok, Err, Result, sym, refl, ap, ◌∙◌, subst, subst₂, inl, inr, arith, ltb-true, eq-eqb, ne_eqb, eqb-true, leb-true}
+use Rattle.std.proofs.Common.{◌≡◌, ℕ, ◌+◌, ◌-◌, ◌%◌, ◌<◌, ◌≤◌, Bool, true, false, cond, ◌&&◌, eqb, ltb, leb, List, [], ◌∷◌, ◌++◌, length, Some, Ok, sym, refl, ap, ◌∙◌, subst, subst₂, inl, inr, arith, ltb-true, eqb-true, leb-true}
 use Rattle.std.proofs.lemmas.List.{length-drop, get_or-drop}
 use mathlib.Core.Path.{subst⁻¹}
 use mathlib.Core.List.Memᴰ
 use Rattle.std.proofs.lemmas.Bool.{and_parts}
-use Rattle.letter.specs.declared.Kind.{Kind}
 use Rattle.letter.specs.declared.Kind.TheVariants.{Probe, Page, Commit, Ack, Refuse, Taken}
 use Rattle.letter.specs.declared.Letter.{Letter}
 use Rattle.letter.specs.Words.{number, spelt, letter_of}
 use Rattle.letter.proofs.Spell.{written_read}
 use Rattle.window.specs.Pages.{Sound, dropped}
-use Rattle.moving.specs.declared.Down.{Down}
 use Rattle.moving.specs.declared.Node.{Node}
 use Rattle.moving.specs.declared.state.Transfer.{Transfer}
 use Rattle.moving.specs.declared.state.Receiving.{Receiving as Reception}
@@ -20,23 +18,14 @@ use Rattle.moving.specs.declared.state.Committed.{Committed as Commitment}
 use Rattle.moving.specs.declared.state.State.{State}
 use Rattle.moving.specs.declared.state.State.TheVariants.{Away, Receiving, Running, Copying, Paused, Committed}
 use Rattle.moving.specs.Hosts.{World, kept, put_page, resumed, MayResume, Gets}
-use Rattle.moving.specs.Used.{Used}
 use Rattle.moving.specs.Acted.{Heard, OneHeard, OneHeard.nothing, OneHeard.letter, Hears.more}
-use Rattle.moving.specs.Model.{moving, on_state, on_top, runs_again, asked_for, begins, probed, is_next, received, receives, taken, refused_in, resumes, refused, acked, acked_in, gone_in, by_kind, heeded, Windowed, Tidy}
+use Rattle.moving.specs.Model.{on_state, on_top, runs_again, asked_for, begins, is_next, received, receives, taken, refused_in, acked, acked_in, gone_in, heeded, Windowed, Tidy}
 use Rattle.moving.specs.Invariant.{View, Acked, slot, Legit, Side, Both, Whole}
-use Rattle.moving.proofs.Moves.{no, none_some, may_go, refused_paused, refused_copying}
+use Rattle.moving.proofs.Moves.{no, may_go, refused_paused, refused_copying}
 use Rattle.moving.proofs.Scans.{ack_copying, ack_paused}
 use Rattle.moving.proofs.Letters.{let_go}
 use Rattle.moving.proofs.Steps.{went_whole, may_resume, seen, begin_whole, put_whole, take_whole, refused_whole}
 use Rattle.moving.proofs.Ways.{SoFar, begin, got, gotten}
-
--- asks add up
-pub used_more : {a : ℕ} {w v : World} {b : Bool} (c : ℕ) → Used a w b v → a ≤ c → Used c w b v
-used_more c s p = record { left = omega arith; fell = s.fell; pages = s.pages; fall = s.fall; calm = s.calm; still = s.still }
-
-pub used_err : {A : Type 0} {a b : ℕ} {w v x : World} (c : ℕ) (r : Result A Down) → is_err r ≡ true → Used a w true v → Used b v false x → a + b ≤ c → Used c w (is_ok r) x
-used_err c (Ok y) e s t p = no e refl
-used_err c (Err y) e s t p = record { left = omega arith; fell = t.fell; pages = t.pages ∙ s.pages; fall = t.fall; calm = t.calm ∙ s.calm; still = t.still ∙ s.still }
 
 some_is : {a b : ℕ} → Some a ≡ Some b → a ≡ b
 some_is e = cc
@@ -94,14 +83,6 @@ probe_top {n = n} {w = w} l k aw h e = go (begins n.state) refl
 pub probe_none_tidy : {i m : ℕ} {n o : Node} {w : World} (l : Letter) → (begins n.state ≡ true → l.attempt ≤ n.top) → l.kind ≡ Probe → Whole i m (spelt l ∷ []) n o w → Tidy n → Tidy (asked_for l.attempt n)
 probe_none_tidy {n = n} l e k h t = let w = probe_own l k h in asked_tidy n l.attempt t.awake t.windowed w.0 w.1 (probe_top l k t.awake h e)
 
-pub probe_none_is : (n : Node) (t : ℕ) (b : Bool) → b ≡ begins n.state → (ltb n.top t && b) ≡ false → asked_for t n ≡ probed t n
-probe_none_is n t b q e =
-    ap (λ b. asked_for t (cond b (on_top t (Receiving (record { attempt = t; next = 0 })) n) n)) (sym e ∙ ap (λ b. ltb n.top t && b) q)
-
-pub probe_is : (n : Node) (t : ℕ) (b : Bool) → b ≡ begins n.state → (ltb n.top t && b) ≡ true → asked_for t (on_top t (Receiving (record { attempt = t; next = 0 })) n) ≡ probed t n
-probe_is n t b q e =
-    ap (λ b. asked_for t (cond b (on_top t (Receiving (record { attempt = t; next = 0 })) n) n)) (sym e ∙ ap (λ b. ltb n.top t && b) q)
-
 pub probe_tidy : {i m : ℕ} {n o : Node} {w : World} (l : Letter) → l.kind ≡ Probe → n.awake ≡ true → Whole i m (spelt l ∷ []) n o w → Tidy (asked_for l.attempt (on_top l.attempt (Receiving (record { attempt = l.attempt; next = 0 })) n))
 probe_tidy {n = n} l k aw h =
     let w = probe_own l k h in
@@ -131,23 +112,6 @@ nexted l n = on_state (Receiving (record { attempt = l.attempt; next = l.place +
 
 pub page_none_is : (n : Node) (pages : ℕ) (l : Letter) → ((x : Reception) → n.state ≡ Receiving x → ⊥) → n ≡ received pages l n
 page_none_is n pages l f = ap (λ b. cond b (nexted l n) n) (sym (next_not pages l n.state f))
-
-next_is : (n : Node) (pages : ℕ) (l : Letter) (x : Reception) (q : ℕ) (b : Bool) → n.state ≡ Receiving x → q ≡ pages → ((eqb x.attempt l.attempt && eqb x.next l.place) && ltb l.page q) ≡ b → cond b (nexted l n) n ≡ received pages l n
-next_is n pages l x q b s e f =
-    ap (λ b. cond b (nexted l n) n) (sym f ∙ ap (λ q. (eqb x.attempt l.attempt && eqb x.next l.place) && ltb l.page q) e ∙ ap (is_next pages l) (sym s))
-
-pub page_other_is : (n : Node) (pages : ℕ) (l : Letter) (x : Reception) (q : ℕ) → n.state ≡ Receiving x → q ≡ pages → ((eqb x.attempt l.attempt && eqb x.next l.place) && ltb l.page q) ≡ false → n ≡ received pages l n
-page_other_is n pages l x q s e f = next_is n pages l x q false s e f
-
-pub page_is : (n : Node) (pages : ℕ) (l : Letter) (x : Reception) (q : ℕ) → n.state ≡ Receiving x → q ≡ pages → ((eqb x.attempt l.attempt && eqb x.next l.place) && ltb l.page q) ≡ true → nexted l n ≡ received pages l n
-page_is n pages l x q s e f = next_is n pages l x q true s e f
-
--- what the test says
-pub page_test : (x : Reception) (l : Letter) (q : ℕ) → ((eqb x.attempt l.attempt && eqb x.next l.place) && ltb l.page q) ≡ true → (x.attempt ≡ l.attempt) × (x.next ≡ l.place)
-page_test x l q e =
-    let a = (and_parts (eqb x.attempt l.attempt && eqb x.next l.place) (ltb l.page q) e).0 in
-    let b = and_parts (eqb x.attempt l.attempt) (eqb x.next l.place) a in
-    (eqb-true x.attempt l.attempt b.0, eqb-true x.next l.place b.1)
 
 -- places have room
 pub page_room : {i m : ℕ} {n o : Node} {w : World} (l : Letter) → l.kind ≡ Page → Whole i m (spelt l ∷ []) n o w → l.place < m
@@ -184,12 +148,6 @@ receives_not t (Committed z) f = refl
 pub commit_none_is : (n : Node) (t : ℕ) → ((x : Reception) → n.state ≡ Receiving x → ⊥) → asked_for t n ≡ taken t n
 commit_none_is n t f = ap (λ b. asked_for t (cond b (runs_again t false n) n)) (sym (receives_not t n.state f))
 
-pub commit_other_is : (n : Node) (t : ℕ) (x : Reception) → n.state ≡ Receiving x → (x.attempt ≡ t → ⊥) → asked_for t n ≡ taken t n
-commit_other_is n t x s f = ap (λ b. asked_for t (cond b (runs_again t false n) n)) (sym (ap (receives t) s ∙ ne_eqb x.attempt t f))
-
-pub commit_is : (n : Node) (t : ℕ) (x : Reception) → n.state ≡ Receiving x → x.attempt ≡ t → asked_for t (runs_again t false n) ≡ taken t n
-commit_is n t x s e = ap (λ b. asked_for t (cond b (runs_again t false n) n)) (sym (ap (receives t) s ∙ eq-eqb x.attempt t e))
-
 -- the state changes, and it has no transfer
 pub tidy_to : (n : Node) (s : State) → Windowed s → Tidy n → Tidy (on_state s n)
 tidy_to n s w t = record { awake = t.awake; windowed = w; asked = t.asked }
@@ -211,37 +169,11 @@ abbrev refusal : ℕ → Commitment → Bool → Bool → Node → Node
 refusal t x b m n =
     record { me = n.me; awake = n.awake; took = cond (b && m) t n.took; top = n.top; committed = n.committed; asked = n.asked; state = cond b (cond m (Running (record { wanted = true })) Away) (Committed x) }
 
-refusal_is : (t : ℕ) (x : Commitment) (b m : Bool) (n : Node) → eqb x.attempt t ≡ b → x.mine ≡ m → refusal t x b m n ≡ refused t (on_state (Committed x) n)
-refusal_is t x b m n e f = ap (λ b. refusal t x b m n) (sym e) ∙ ap (λ m. refusal t x (eqb x.attempt t) m n) (sym f)
-
-pub refuse_other_is : (t : ℕ) (x : Commitment) (n : Node) → (x.attempt ≡ t → ⊥) → on_state (Committed x) n ≡ refused t (on_state (Committed x) n)
-refuse_other_is t x n f = refusal_is t x false x.mine n (ne_eqb x.attempt t f) refl
-
-pub refuse_away_is : (t : ℕ) (x : Commitment) (n : Node) → x.attempt ≡ t → x.mine ≡ false → on_state Away n ≡ refused t (on_state (Committed x) n)
-refuse_away_is t x n e f = refusal_is t x true false n (eq-eqb x.attempt t e) f
-
-pub refuse_commit_is : (t : ℕ) (x : Commitment) (n : Node) → x.attempt ≡ t → x.mine ≡ true → runs_again t true n ≡ refused t (on_state (Committed x) n)
-refuse_commit_is t x n e f = refusal_is t x true true n (eq-eqb x.attempt t e) f
-
 -- in Paused
 pub refuse_pause_whole : {i m : ℕ} {o : Node} {w : World} (n : Node) (l : Letter) (z : Pause) → z.right.attempt ≡ z.transfer.attempt → z.transfer.attempt ≡ l.attempt → n.awake ≡ true → Whole i m (spelt l ∷ []) (on_state (Paused z) n) o w → MayResume w × Whole i m (spelt l ∷ []) (runs_again l.attempt true n) o (resumed z.right.attempt w)
 refuse_pause_whole {i = i} {m = m} {o = o} {w = w} n l z e a aw h =
     let q = refused_paused_whole z refl aw h in
     (q.0, subst₂ (λ a b. Whole i m (spelt l ∷ []) (runs_again a true n) o (resumed b w)) a (sym e) q.1)
-
-abbrev repulse : ℕ → Pause → Bool → Node → Node
-repulse t x b n =
-    record { me = n.me; awake = n.awake; took = cond b t n.took; top = n.top; committed = n.committed; asked = n.asked; state = cond b (Running (record { wanted = true })) (Paused x) }
-
-pub refuse_unpaused_is : (t : ℕ) (x : Pause) (n : Node) → (x.transfer.attempt ≡ t → ⊥) → on_state (Paused x) n ≡ refused t (on_state (Paused x) n)
-refuse_unpaused_is t x n f = ap (λ b. repulse t x b n) (sym (ne_eqb x.transfer.attempt t f))
-
-pub refuse_pause_is : (t : ℕ) (x : Pause) (n : Node) → x.transfer.attempt ≡ t → runs_again t true n ≡ refused t (on_state (Paused x) n)
-refuse_pause_is t x n f = ap (λ b. repulse t x b n) (sym (eq-eqb x.transfer.attempt t f))
-
--- what runs again has no transfer
-pub again_tidy : (n : Node) (t : ℕ) (b : Bool) (s : State) → Tidy (on_state s n) → Tidy (runs_again t b n)
-again_tidy n t b s h = record { awake = h.awake; windowed = tt; asked = h.asked }
 
 -- in Copying
 pub refuse_copying_whole : {i m : ℕ} {x : List (List ℕ)} {n o : Node} {w : World} (t : ℕ) (c : Transfer) (s : State) → n.state ≡ Copying c → s ≡ refused_in t (Copying c) → n.awake ≡ true → Whole i m x n o w → Whole i m x (on_state s n) o w
@@ -251,29 +183,6 @@ refuse_copying_whole {i = i} {m = m} {x = x} {n = n} {o = o} {w = w} t c s e f a
     go : (b : Bool) → Whole i m x (on_state (cond b (Running (record { wanted = true })) (Copying c)) n) o w
     go true = alone h (refused_copying c e aw h.both)
     go false = subst (λ s. Whole i m x (on_state s n) o w) e h
-
-pub refuse_copying_is : (n : Node) (t : ℕ) (c : Transfer) (s : State) → n.state ≡ Copying c → s ≡ refused_in t (Copying c) → on_state s n ≡ refused t n
-refuse_copying_is n t c s e f =
-    subst⁻¹ (λ k. on_state s n ≡ record { me = n.me; awake = n.awake; took = cond (resumes t k) t n.took; top = n.top; committed = n.committed; asked = n.asked; state = refused_in t k }) e (ap (λ s. on_state s n) f)
-
-pub refuse_copying_tidy : (n : Node) (t : ℕ) (c : Transfer) (s : State) → n.state ≡ Copying c → s ≡ refused_in t (Copying c) → Tidy n → Tidy (on_state s n)
-refuse_copying_tidy n t c s e f h = tidy_to n s (subst⁻¹ Windowed f (go (eqb c.attempt t))) h
-  where
-    go : (b : Bool) → Windowed (cond b (Running (record { wanted = true })) (Copying c))
-    go true = tt
-    go false = subst Windowed e h.windowed
-
--- elsewhere
-pub refuse_none_is : (n : Node) (t : ℕ) → ((c : Transfer) → n.state ≡ Copying c → ⊥) → ((z : Pause) → n.state ≡ Paused z → ⊥) → ((z : Commitment) → n.state ≡ Committed z → ⊥) → n ≡ refused t n
-refuse_none_is n t a b d = go n.state refl
-  where
-    go : (s : State) → n.state ≡ s → on_state s n ≡ record { me = n.me; awake = n.awake; took = cond (resumes t s) t n.took; top = n.top; committed = n.committed; asked = n.asked; state = refused_in t s }
-    go Away e = refl
-    go (Receiving r) e = refl
-    go (Running r) e = refl
-    go (Copying c) e = absurd (a c e)
-    go (Paused z) e = absurd (b z e)
-    go (Committed z) e = absurd (d z e)
 
 -- the state is taken out and put back
 pub put_back : (n : Node) (s : State) → n.state ≡ s → on_state s n ≡ n
@@ -361,12 +270,6 @@ ack_tidy n l s e t = tidy_to n s (subst⁻¹ Windowed e (acked_windowed l.attemp
 pub gone_whole : {i m : ℕ} {n o : Node} {w : World} (l : Letter) (z : Commitment) → n.state ≡ Committed z → z.attempt ≡ l.attempt → l.kind ≡ Taken → Whole i m (spelt l ∷ []) n o w → Whole i m (spelt l ∷ []) (on_state Away n) o w
 gone_whole l z e a k h = alone h (let_go (spelt l) z (inl (Memᴰ.head refl)) e (sym a) (inl (ap number k)) h.both)
 
-pub gone_is : (n : Node) (t : ℕ) (z : Commitment) → n.state ≡ Committed z → z.attempt ≡ t → on_state Away n ≡ on_state (gone_in t n.state) n
-gone_is n t z e a = ap (λ s. on_state s n) (ap (λ b. cond b Away (Committed z)) (sym (eq-eqb z.attempt t a)) ∙ ap (gone_in t) (sym e))
-
-pub gone_other_is : (n : Node) (t : ℕ) (z : Commitment) → n.state ≡ Committed z → (z.attempt ≡ t → ⊥) → n ≡ on_state (gone_in t n.state) n
-gone_other_is n t z e a = ap (λ s. on_state s n) (e ∙ ap (λ b. cond b Away (Committed z)) (sym (ne_eqb z.attempt t a)) ∙ ap (gone_in t) (sym e))
-
 pub gone_none_is : (n : Node) (t : ℕ) → ((z : Commitment) → n.state ≡ Committed z → ⊥) → n ≡ on_state (gone_in t n.state) n
 gone_none_is n t f = ap (λ s. on_state s n) (go n.state refl)
   where
@@ -382,53 +285,6 @@ gone_none_is n t f = ap (λ s. on_state s n) (go n.state refl)
 pub heard_letter : {n : Node} {w v : World} (b : Bool) (ws : List ℕ) (l : Letter) → b ≡ true → length ws ≡ 72 → Some l ≡ letter_of ws → w.fell ≡ false → Gets w (Ok b) ws v → SoFar [] n w 0 (spelt l ∷ []) n v
 heard_letter {n = n} {w = w} {v = v} b ws l q k e u g =
     subst⁻¹ (λ (z : List ℕ). SoFar [] n w 0 (z ∷ []) n v) (written_read ws l k (sym e)).0 (gotten b ws q (got (begin [] n w u) g))
-
--- no letter begins a transfer
-some_none : {A : Type 0} {c : Transfer} → Some c ≡ None → A
-some_none e = none_some (sym e)
-
-pub still_none : (pages : ℕ) (l : Letter) (n : Node) → moving n.state ≡ None → moving (heeded pages l n).state ≡ None
-still_none pages l n h = go l.kind
-  where
-    either : (b : Bool) (m : Node) → moving m.state ≡ None → moving (cond b m n).state ≡ None
-    either true m e = e
-    either false m e = h
-
-    first : (b : Bool) (s t : State) → moving s ≡ None → moving t ≡ None → moving (cond b s t) ≡ None
-    first true s t e f = e
-    first false s t e f = f
-
-    acks : (t p : ℕ) (s : State) → moving s ≡ None → moving (acked_in t p s) ≡ None
-    acks t p Away e = refl
-    acks t p (Receiving r) e = refl
-    acks t p (Running r) e = refl
-    acks t p (Copying c) e = some_none e
-    acks t p (Paused z) e = some_none e
-    acks t p (Committed z) e = refl
-
-    refuses : (t : ℕ) (s : State) → moving s ≡ None → moving (refused_in t s) ≡ None
-    refuses t Away e = refl
-    refuses t (Receiving r) e = refl
-    refuses t (Running r) e = refl
-    refuses t (Copying c) e = some_none e
-    refuses t (Paused z) e = some_none e
-    refuses t (Committed z) e = first (eqb z.attempt t) (cond z.mine (Running (record { wanted = true })) Away) (Committed z) (first z.mine (Running (record { wanted = true })) Away refl refl) refl
-
-    takes : (t : ℕ) (s : State) → moving s ≡ None → moving (gone_in t s) ≡ None
-    takes t Away e = refl
-    takes t (Receiving r) e = refl
-    takes t (Running r) e = refl
-    takes t (Copying c) e = some_none e
-    takes t (Paused z) e = some_none e
-    takes t (Committed z) e = first (eqb z.attempt t) Away (Committed z) refl refl
-
-    go : (k : Kind) → moving (by_kind k pages l n).state ≡ None
-    go Probe = either (ltb n.top l.attempt && begins n.state) (on_top l.attempt (Receiving (record { attempt = l.attempt; next = 0 })) n) refl
-    go Page = either (is_next pages l n.state) (nexted l n) refl
-    go Commit = either (receives l.attempt n.state) (runs_again l.attempt false n) refl
-    go Ack = acks l.attempt l.place n.state h
-    go Refuse = refuses l.attempt n.state h
-    go Taken = takes l.attempt n.state h
 
 -- LETTERS IN A ROW: one more, or none
 pub hear_more : {pages p : ℕ} {b : Bool} {n x y : Node} → p ≡ pages → Heard pages n x → OneHeard p b x y → Heard pages n y

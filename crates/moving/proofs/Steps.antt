@@ -54,14 +54,6 @@ pub goes_fell : {w v : World} → Goes w v → v.fell ≡ w.fell
 goes_fell (rest w) = refl
 goes_fell (writes p ws r l s g) = goes_fell g
 
-pub goes_left : {w v : World} → Goes w v → v.left ≡ w.left
-goes_left (rest w) = refl
-goes_left (writes p ws r l s g) = goes_left g
-
-pub goes_wish : {w v : World} → Goes w v → v.wish ≡ w.wish
-goes_wish (rest w) = refl
-goes_wish (writes p ws r l s g) = goes_wish g
-
 pub goes_lost : {w v : World} → Goes w v → v.lost ≡ w.lost
 goes_lost (rest w) = refl
 goes_lost (writes p ws r l s g) = goes_lost g
@@ -97,11 +89,6 @@ step_err {w = w} (down t) u h k = absurd (both_ways w.fell u (is_true w.fell t))
 
 pub step_up : {w d v : World} → Does w d true v → d.fell ≡ w.fell → v.fell ≡ false
 step_up (stands v e g) p = goes_fell g ∙ p ∙ e
-
-pub step_down : {w d v : World} → Does w d false v → w.fell ≡ false → v.fell ≡ true
-step_down (falls_before v e f) u = ap (λ w. w.fell) f.is
-step_down (falls_after v e f) u = ap (λ w. w.fell) f.is
-step_down {w = w} (down t) u = absurd (both_ways w.fell u (is_true w.fell t))
 
 -- WHAT IS ASKED
 -- a change at the host whose turn it is
@@ -256,10 +243,6 @@ sends_whole {i = i} {m = m} {x = x} {n = n} {o = o} {w = w} {l = l} s g h = go s
 pub sends_fell : {w : World} {l : List ℕ} {d : World} → Sends w l d → d.fell ≡ w.fell
 sends_fell (takes s a) = refl
 sends_fell (loses s a) = refl
-
-pub sends_left : {w : World} {l : List ℕ} {d : World} → Sends w l d → d.left ≡ w.left
-sends_left (takes s a) = refl
-sends_left (loses s a) = refl
 
 -- TURNS AND ROUNDS
 pub swap_whole : {i m : ℕ} {n o : Node} {w : World} (j : ℕ) → j ≤ 1 → i ≡ 1 - j → Whole i m [] n o w → Whole j m [] o n (seated j w)

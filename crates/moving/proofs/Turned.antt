@@ -1,6 +1,6 @@
 -- How a turn begins and ends.
 -- Assumes nothing.
-use Rattle.std.proofs.Common.{◌≡◌, ℕ, ◌-◌, ◌%◌, ◌<◌, ◌≤◌, Bool, true, false, cond, ◌&&◌, eqb, ltb, leb, ◌⊎◌, List, [], Some, None, Option, sym, refl, ap, ◌∙◌, subst, inl, inr, arith, eqb-true, eq-eqb, ne_eqb, lt-ltb, le-ltb}
+use Rattle.std.proofs.Common.{◌≡◌, ℕ, ◌-◌, ◌%◌, ◌<◌, ◌≤◌, Bool, true, false, cond, ◌&&◌, eqb, ltb, leb, List, [], Some, None, Option, sym, refl, ap, ◌∙◌, subst, arith, eqb-true, eq-eqb, ne_eqb, lt-ltb, le-ltb}
 use borrow.Author.Tests.{eqb-false}
 use Rattle.std.proofs.lemmas.Bool.{leb-true, leb-false}
 use Rattle.letter.specs.declared.Kind.TheVariants.{Ack, Refuse, Taken}
@@ -14,7 +14,7 @@ use Rattle.moving.specs.Hosts.{World, Goes, rest, writes, Does, stands, put, me,
 use Rattle.moving.specs.Model as model
 use Rattle.moving.specs.Model.{woken, bare, Tidy, Rested, AskedWell, Windowed, on_state, silent, answer_in, took_or_not, moving, Enough}
 use Rattle.moving.specs.Invariant.{Whole, Both, View, Legit, NotReceiving, flip}
-use Rattle.moving.proofs.Moves.{clash, receiving_same, none_some}
+use Rattle.moving.proofs.Moves.{clash, receiving_same}
 use Rattle.moving.proofs.Letters.{wakes, woke, woke_committed, ack_legit, refuse_legit, taken_legit}
 use Rattle.moving.proofs.Steps.{seen}
 use Rattle.letter.specs.Words.{head}
@@ -49,9 +49,6 @@ pub wake_committed_whole : {i m : ℕ} {x : List (List ℕ)} {n o : Node} {w : W
     Whole i m x (wakes a b c (Committed (record { attempt = b; mine = false; turns = 0 })) n) o w
 wake_committed_whole {n = n} a b c e p q r s lt h =
     alone h (woke_committed {n = wakes a b c n.state n} (record { attempt = b; mine = false; turns = 0 }) e refl refl q (sym r ∙ s ∙ q) lt (woke a b c p q r h.both))
-
-pub nobody_asks : (me top : ℕ) (a : Option ℕ) → a ≡ None → (t : ℕ) → a ≡ Some t → (t % 2 ≡ 1 - me) × (1 ≤ t) × (t ≤ top)
-nobody_asks me top a e t f = let z : ◌≡◌ {A = ℕ} 0 1 = cc in absurd (omega arith)
 
 -- REPLYING
 pub hush : {m : ℕ} {x y : List (List ℕ)} {n o : Node} {u : View} → Both m x y n o u → Both m x y (silent n) o u
@@ -125,26 +122,10 @@ woken_is n {a = a} {b = b} {c = c} {x = x} {y = y} {z = z} e p q r s k =
     ∙ ap (λ v. model.woke v b c n) p ∙ ap (λ v. model.woke x v c n) q ∙ ap (λ v. model.woke x y v n) r
     ∙ ap (λ v. cond v n (model.woke x y z n)) (sym e)
 
--- enough asks are left for what a node does by itself: all that a full window needs, or none is on its way
-pub enough_for : (s : State) (most : ℕ) → Windowed s → (127 ≤ most) ⊎ ((moving s ≡ None) × (3 ≤ most)) → Enough most s
-enough_for Away most w e = tt
-enough_for (Receiving x) most w e = tt
-enough_for (Running x) most w (inl e) = omega arith
-enough_for (Running x) most w (inr e) = e.1
-enough_for (Copying x) most w (inl e) = let r = w.room in omega arith
-enough_for (Copying x) most w (inr e) = none_some (sym e.0)
-enough_for (Paused x) most w (inl e) = let r = w.0.room in omega arith
-enough_for (Paused x) most w (inr e) = none_some (sym e.0)
-enough_for (Committed x) most w (inl e) = omega arith
-enough_for (Committed x) most w (inr e) = let q = e.1 in omega arith
-
 -- WHAT THE OTHER GETS TO HEAR
 pub replied_none : (w : World) (n : Node) (t : ℕ) → n.asked ≡ Some t → None ≡ answer_in n.state t n.took → SentIf (reply_of n) w w
 replied_none w n t e f =
     subst (λ a. SentIf (reply_to a n) w w) (sym e) (subst (λ a. SentIf (answer_head t a) w w) f (still_self w))
-
-pub nobody_asked : (w : World) (n : Node) → n.asked ≡ None → SentIf (reply_of n) w w
-nobody_asked w n e = subst (λ a. SentIf (reply_to a n) w w) (sym e) (still_self w)
 
 pub replied : {w v : World} (n : Node) (t : ℕ) (a : Answer) → n.asked ≡ Some t → Some a ≡ answer_in n.state t n.took → Added (head a.kind t a.place 0) w v → SentIf (reply_of n) w v
 replied {w = w} {v = v} n t a e f s = subst (λ b. SentIf (reply_to b n) w v) (sym e) (subst (λ b. SentIf (answer_head t b) w v) f s)

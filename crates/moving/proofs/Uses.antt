@@ -1,10 +1,9 @@
 -- What an ask does to what's left of the turn, whether the host has fallen, how many pages there are, and how many calm rounds were counted.
 -- Assumes nothing.
-use Rattle.std.proofs.Common.{◌≡◌, ℕ, Bool, true, false, not, T, List, is_ok, is_err, IfOk, Ok, Err, Result, sym, refl, ap, ◌∙◌, subst, arith}
-use borrow.Author.Tests.{both_ways}
+use Rattle.std.proofs.Common.{◌≡◌, ℕ, Bool, true, not, T, List, is_ok, IfOk, Ok, Err, Result, sym, refl, ap, ◌∙◌, subst, arith}
 use Rattle.moving.specs.declared.Down.{Down}
 use Rattle.moving.specs.Hosts.{World, Goes, rest, writes, Does, stands, falls_before, falls_after, down, Posts, posts, Sends, takes, loses, Gets, gets, falls, Gives, next, again, nothing}
-use Rattle.moving.specs.Used.{Soon, Used, Counts}
+use Rattle.moving.specs.Used.{Soon, Used}
 
 -- w and v agree on what's left, who fell, how many pages there are and how many calm rounds were counted
 pub record Same (w v : World) : Type 0 where
@@ -68,17 +67,3 @@ got (falls x d b l m v s h) r = does h r (gives_same s)
 pub answered : {A : Type 0} (r : Result A Down) (x : A) → (is_ok r ≡ true → r ≡ Ok x) → IfOk r (λ y. y ≡ x)
 answered (Ok y) x f = let e = f refl in cc
 answered (Err d) x f = tt
-
--- what holds if there is an answer
-pub if_made : {A : Type 0} (r : Result A Down) (P : Type 0) → (is_ok r ≡ true → P) → IfOk r (λ _. P)
-if_made (Ok y) P f = f refl
-if_made (Err d) P f = tt
-
-pub both_made : {A : Type 0} (r : Result A Down) (P Q : A → Type 0) → IfOk r P → IfOk r Q → IfOk r (λ x. P x × Q x)
-both_made (Ok y) P Q a b = (a, b)
-both_made (Err d) P Q a b = tt
-
--- of a turn that ended in a fall
-pub fell_counts : {A : Type 0} {w v : World} (r : Result A Down) → is_err r ≡ true → Counts w false v → Counts w (is_ok r) v
-fell_counts (Ok x) e h = absurd (both_ways false refl e)
-fell_counts (Err x) e h = h

@@ -51,10 +51,9 @@ pub fn keep<P: Place>(w: &mut P, c: u32, x: u64) -> Result<(), Down>
     w.keep(c, x)
 }
 
-pub fn put<P: Place>(w: &mut P, p: u32, words: &[u64]) -> Result<(), Down>
+pub fn put<P: Place>(w: &mut P, p: u32, words: &[u64; 64]) -> Result<(), Down>
     requires soon { Soon 1 (P.world w.old) }
     requires inside { p < (P.world w.old).pages }
-    requires long { length words.now ≡ 64 }
     requires may { MayPut (P.world w.old) }
     ensures used { Used 1 (P.world w.old) (is_ok result) (P.world w.new) }
     ensures does { Does (P.world w.old) (put_page p words.now (P.world w.old)) (is_ok result) (P.world w.new) }
@@ -83,16 +82,17 @@ pub fn resume<P: Place>(w: &mut P, x: u64) -> Result<(), Down>
     w.resume(x)
 }
 
-pub fn page<P: Place>(w: &mut P, p: u32, into: &mut [u64]) -> Result<(), Down>
+pub fn page<P: Place>(w: &mut P, p: u32) -> Result<[u64; 64], Down>
     requires soon { Soon 1 (P.world w.old) }
     requires inside { p < (P.world w.old).pages }
-    requires long { length into.old ≡ 64 }
     ensures used { Used 1 (P.world w.old) (is_ok result) (P.world w.new) }
     ensures does { Does (P.world w.old) (P.world w.old) (is_ok result) (P.world w.new) }
     ensures line { OnOk result (Still (P.world w.old) (P.world w.new)) }
-    ensures words { OnOk result (into.new ≡ (me (P.world w.old)).page p) }
+    ensures words { IfOk result (λ x. x ≡ (me (P.world w.old)).page p) }
 {
-    w.page(p, into)
+    let mut words = [0; 64];
+    w.page(p, &mut words)?;
+    Ok(words)
 }
 
 // A letter to the other host.

@@ -78,8 +78,7 @@ impl Transfer {
         ensures keeps { Carried 0 self.now (P.world w.old) result self.now (P.world w.new) }
     {
         let page = self.window.page_at(place);
-        let mut words = [0u64; 64];
-        asks::page(w, page, &mut words)?;
+        let words = asks::page(w, page)?;
         let l = Letter {
             kind: Kind::Page,
             attempt: self.attempt,

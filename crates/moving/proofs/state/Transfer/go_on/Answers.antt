@@ -1,7 +1,7 @@
 use Rattle.std.proofs.Common.{sym, ◌∙◌, arith, length, eqb-true}
 use Rattle.moving.proofs.Passes.{went_on, asked_none}
 use Rattle.moving.proofs.Ways as ways
-use Rattle.moving.proofs.Ways.{then_call, ends_ok, ends_call}
+use Rattle.moving.proofs.Ways.{SoFar, begin, then_call, posted, posts_ends, ends_ok, ends_call, unmade}
 use Rattle.moving.proofs.Carries.{probes, probes_err}
 use Rattle.moving.proofs.state.Transfer.go_on.Goals as goal
 
