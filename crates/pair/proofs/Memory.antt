@@ -1,19 +1,15 @@
 -- The guest's memory, saved page by page; and hosts on which nothing has happened.
 -- Assumes nothing.
-use Rattle.std.proofs.Common.{◌≡◌, ℕ, ◌+◌, ◌≤◌, min, false, cond, eqb, ltb, List, [], length, get_or, take, sym, refl, ap, ◌∙◌, inl, inr, arith}
-use mathlib.Core.Path.{fun_ext}
-use Rattle.std.proofs.lemmas.Bool.{cases_eq, cases_lt, eq-eqb, ne_eqb, lt-ltb, le-ltb, cond-true, cond-false, cond_both}
+use Rattle.std.proofs.Common.{◌≡◌, ℕ, ◌≤◌, min, false, cond, eqb, List, [], length, get_or, take, refl, ap, ◌∙◌, inl, inr, arith}
+use Rattle.std.proofs.lemmas.Bool.{cases_lt, cond_both}
 use Rattle.std.proofs.lemmas.List.{get_or_past, get_or-take, length-take}
-use Rattle.std.proofs.lemmas.Bool.Decides.{nat_tests}
-use Rattle.moving.specs.Hosts.{Host, World, put}
-use Rattle.who.specs.declared.Who.{Who}
-use Rattle.who.specs.declared.Who.TheVariants.{Zero, One}
+use Rattle.moving.specs.Hosts.{Host, World}
 use Rattle.who.specs.Numbers.{numb}
 use Rattle.side.specs.declared.Side.{Side}
 use Rattle.side.specs.Sides.{blank, size_of, host, Fresh}
 use Rattle.side.proofs.Sizes.{size_pages}
 use Rattle.pair.specs.declared.Pair.{Pair}
-use Rattle.pair.specs.Worlds.{nobody, both, room, world_of, with_truth, up_to}
+use Rattle.pair.specs.Worlds.{nobody, both, room, world_of, with_truth}
 
 -- the guest's memory is another
 abbrev pub with_ref : List (List ℕ) → Pair → Pair
@@ -32,28 +28,6 @@ truth_is h xs t size is =
 
 past_page : (n : ℕ) (xs : List (List ℕ)) (j : ℕ) → n ≤ j → get_or (take n xs) j blank ≡ blank
 past_page n xs j le = get_or_past (take n xs) j blank (simp length-take (omega arith))
-
--- past the last page there's nothing
-pub past_pages : (h : Pair) (v : Who) (j : ℕ) → room h ≤ j → ((world_of h).host (numb v)).page j ≡ (world_of h).truth j
-past_pages h Zero j le = past_page (room h) h.zero.pages.now j le ∙ sym (past_page (room h) h.truth.now j le)
-past_pages h One j le = past_page (room h) h.one.pages.now j le ∙ sym (past_page (room h) h.truth.now j le)
-
-pub up_to_more : (k : ℕ) (f g : ℕ → List ℕ) → put k (f k) (up_to k f g) ≡ up_to (k + 1) f g
-up_to_more k f g =
-    fun_ext (λ j. elim (cases_eq j k) [
-      | inl e ↦ cond-true (eqb j k) (f k) (up_to k f g j) (eq-eqb j k e) ∙ ap f (sym e) ∙ sym (cond-true (ltb j (k + 1)) (f j) (g j) (lt-ltb j (k + 1) (omega arith)))
-      | inr ne ↦ cond-false (eqb j k) (f k) (up_to k f g j) (ne_eqb j k ne) ∙ ap (λ b. cond b (f j) (g j)) (more j ne)
-    ])
-  where
-    more : (j : ℕ) → (j ≡ k → ⊥) → ltb j k ≡ ltb j (k + 1)
-    more j ne = grind (arith, nat_tests)
-
-pub up_to_all : (k : ℕ) (f g : ℕ → List ℕ) → ((j : ℕ) → k ≤ j → f j ≡ g j) → up_to k f g ≡ f
-up_to_all k f g past =
-    fun_ext (λ j. elim (cases_lt j k) [
-      | inl lt ↦ cond-true (ltb j k) (f j) (g j) (lt-ltb j k lt)
-      | inr le ↦ cond-false (ltb j k) (f j) (g j) (le-ltb j k le) ∙ sym (past j le)
-    ])
 
 -- two hosts on which nothing has happened
 abbrev Starts : Host → Type 0

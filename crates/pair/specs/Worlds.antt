@@ -1,7 +1,7 @@
 -- What two hosts in memory and their guest are, as a world.
 -- Assumes nothing.
-use Rattle.std.specs.Prelude.{◌≡◌, ℕ, ◌+◌, ◌<◌, min, Bool, true, false, cond, not, ◌&&◌, List, [], ◌∷◌, length, take, replicate, ◌==◌, nat_lt, Option, slice_get, slice_index_or}
-use Rattle.moving.specs.Hosts.{Host, World, host_of, put, Among, taken, rest', with_host, with_guest, with_link, me, Fallen, with_turn, good}
+use Rattle.std.specs.Prelude.{◌≡◌, ℕ, ◌+◌, ◌<◌, min, Bool, true, false, cond, not, ◌&&◌, List, [], ◌∷◌, length, take, replicate, ◌==◌, Option, slice_get, slice_index_or}
+use Rattle.moving.specs.Hosts.{Host, World, host_of, Among, taken, rest', with_host, with_guest, with_link, me, Fallen, with_turn, good}
 use Rattle.who.specs.declared.Who.{Who}
 use Rattle.who.specs.declared.Who.TheVariants.{Zero, One}
 use Rattle.who.specs.Numbers.{numb}
@@ -11,9 +11,12 @@ use Rattle.side.specs.Sides.{blank, size_of, host, remembered, roughened}
 use Rattle.pair.specs.declared.Pair.{Pair}
 
 -- A host of the two.
+abbrev pub side_in : Who → Side → Side → Side
+side_in Zero a b = a
+side_in One a b = b
+
 abbrev pub side_of : Who → Pair → Side
-side_of Zero h = h.zero
-side_of One h = h.one
+side_of v h = side_in v h.zero h.one
 
 -- That host is another.
 abbrev pub with_side : Who → Pair → Side → Pair
@@ -72,14 +75,6 @@ mixed_in m k i w = with_link i (roughened m k (w.host i).row) (w.host i).old w
 -- The guest's memory is t.
 abbrev pub with_truth : (ℕ → List ℕ) → World → World
 with_truth t w = with_guest w.runs w.last w.lost t w.hurt w.wish w
-
--- One page of the guest's memory is what it is where it runs.
-abbrev pub saved : ℕ → World → World
-saved p w = with_truth (put p ((w.host w.last).page p) w.truth) w
-
--- f below k, g from there on.
-abbrev pub up_to : ℕ → (ℕ → List ℕ) → (ℕ → List ℕ) → ℕ → List ℕ
-up_to k f g p = cond (nat_lt p k) (f p) (g p)
 
 -- The guest is to be moved, and the host on which it runs is told.
 abbrev pub wished : World → World

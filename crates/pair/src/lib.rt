@@ -8,7 +8,7 @@ ghost use Rattle.std.specs.Fn.{FnOnceTakesAtMut, FnOnceReturnsAtMut};
 ghost use Rattle.side.specs.declared.Side.{Side};
 ghost use Rattle.who.specs.Numbers.{numb};
 ghost use Rattle.side.specs.Sides.{size_of, Fresh};
-ghost use Rattle.pair.specs.Worlds.{side_of, with_side, room, world_of, DroppedWith, FallenWith, PostedIn, NextIn, mixed_in, saved, wished, closed};
+ghost use Rattle.pair.specs.Worlds.{side_in, side_of, with_side, room, world_of, DroppedWith, FallenWith, PostedIn, NextIn, mixed_in, wished, closed};
 
 use side::{Mix, Post, Side, Wreck};
 use who::Who;
@@ -53,6 +53,16 @@ fn other(who: Who) -> Who
     match who {
         Who::Zero => Who::One,
         Who::One => Who::Zero,
+    }
+}
+
+// One of two.
+fn pick<'x, 'a>(zero: &'x Side<'a>, one: &'x Side<'a>, who: Who) -> &'x Side<'a>
+    ensures { result.now ≡ side_in who zero.now one.now }
+{
+    match who {
+        Who::Zero => zero,
+        Who::One => one,
     }
 }
 
@@ -116,10 +126,7 @@ impl<'a> Pair<'a> {
     fn side(&self, who: Who) -> &Side<'a>
         ensures { result.now ≡ side_of who self.now }
     {
-        match who {
-            Who::Zero => &self.zero,
-            Who::One => &self.one,
-        }
+        pick(&self.zero, &self.one, who)
     }
 
     // One ask less is left.
@@ -194,23 +201,14 @@ impl<'a> Pair<'a> {
         self.at(self.turn, |side| side.fall(wreck))
     }
 
-    // A page of the guest's memory becomes what it is where the guest ran last.
-    fn save(&mut self, p: usize)
-        requires { p < room self.old }
-        ensures { world_of self.new ≡ saved p (world_of self.old) }
-    {
-        let words = *self.side(self.last).page(p);
-        self.truth[p] = words;
-    }
-
     // The guest stops; its memory is what its pages are.
     pub fn stop(&mut self)
         ensures { world_of self.new ≡ stopped (world_of self.old) }
     {
         let n = self.count() as usize;
-        for p in 0..n {
-            self.save(p);
-        }
+        let last = self.last;
+        let truth = &mut self.truth[..n];
+        truth.copy_from_slice(pick(&self.zero, &self.one, last).pages(n));
         self.runs = false;
         self.hurt = false;
     }
@@ -230,7 +228,8 @@ impl<'a> Pair<'a> {
     pub fn post(&mut self, letter: &[u64; 72], post: Post) -> bool
         ensures { PostedIn post.lost post.kept (other (world_of self.old)) (world_of self.old) letter.now result (world_of self.new) }
     {
-        self.at(other(self.turn), |side| side.post(letter, post))
+        let to = other(self.turn);
+        self.at(to, |side| side.post(letter, post))
     }
 
     // The first letter that waits for the host whose turn it is, which is taken off.

@@ -4,18 +4,12 @@ use Rattle.std.proofs.Common.{◌≡◌, ℕ, zero, suc, ◌-◌, ◌%◌, ◌<�
 use mathlib.Core.List.Memᴰ
 use mathlib.Core.List.{Memᴰ}
 use Rattle.std.proofs.lemmas.Bool.{lt-ltb, le-ltb, eqb-false, cond-true, cond-false, cond_both}
-use Rattle.moving.specs.Hosts.{Among, taken, rest'}
+use Rattle.moving.specs.Hosts.{Among, rest'}
 use Rattle.side.specs.declared.Mix.{Mix}
 use Rattle.side.specs.declared.Mix.TheVariants.{Still, First, Swap, Double}
 use Rattle.queue.specs.declared.Queue.{Queue}
 use Rattle.queue.specs.Queues.{letters_of, room_of, Pushed}
 use Rattle.side.specs.Sides.{remembered, mixed, roughened, Remembers}
-
-pub taken_more : (r : List (List ℕ)) (l : List ℕ) → length r < 64 → taken r l ≡ r ++ l ∷ []
-taken_more r l h = cond-true (ltb (length r) 64) (r ++ l ∷ []) r (lt-ltb (length r) 64 h)
-
-pub taken_full : (r : List (List ℕ)) (l : List ℕ) → 64 ≤ length r → taken r l ≡ r
-taken_full r l h = cond-false (ltb (length r) 64) (r ++ l ∷ []) r (le-ltb (length r) 64 h)
 
 pub remembered_more : (xs : List (List ℕ)) (l : List ℕ) → length xs < 128 → remembered xs l ≡ xs ++ l ∷ []
 remembered_more xs l h = ap (λ ys. ys ++ l ∷ []) (cond-true (ltb (length xs) 128) xs (rest' xs) (lt-ltb (length xs) 128 h))

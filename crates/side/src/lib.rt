@@ -1,7 +1,7 @@
 // One host in memory that is lent to it: its pages, cells and letters.
 #![tactic(auto)]
 
-ghost use Rattle.std.specs.Prelude.{◌≡◌, ℕ, ◌+◌, ◌-◌, ◌%◌, ◌<◌, ◌≤◌, min, Bool, true, false, cond, List, [], ◌∷◌, length, replicate, nat_lt, is_some, option_copied, slice_get, slice_index_or, slice_set};
+ghost use Rattle.std.specs.Prelude.{◌≡◌, ℕ, ◌+◌, ◌-◌, ◌%◌, ◌<◌, ◌≤◌, min, Bool, true, false, cond, List, [], ◌∷◌, length, take, replicate, nat_lt, is_some, option_copied, slice_get, slice_index_or, slice_set};
 ghost use mathlib.Core.List.{Memᴰ};
 ghost use Rattle.queue.specs.Queues.{letters_of, room_of};
 ghost use Rattle.side.specs.Sides.{blank, size_of, host, Turns, kept_by, told_by, put_by, wrote_by, untouched_by, Fell, Linked, Noted, Posted, Nexts, mixed, roughened, Fresh, Remembers, Enters};
@@ -187,6 +187,16 @@ impl<'a> Side<'a> {
     {
         let all = &*self.pages;
         &all[p]
+    }
+
+    // The first n pages.
+    pub fn pages(&self, n: usize) -> &[[u64; 64]]
+        requires { n ≤ size_of self.now }
+        ensures is { result.now ≡ take n self.now.pages.now }
+        ensures len { length result.now ≡ n }
+    {
+        let all = &*self.pages;
+        &all[..n]
     }
 
     // Whether the guest wrote a page since this was last asked.

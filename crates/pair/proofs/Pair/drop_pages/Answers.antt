@@ -1,4 +1,4 @@
-use Rattle.std.proofs.Common.{refl, rules, of_calls}
+use Rattle.std.proofs.Common.{refl, rules}
 use Rattle.side.specs.Sides.{Fell}
 use Rattle.pair.specs.Worlds.{side_of}
 use Rattle.pair.proofs.Sides.{dropped}
@@ -8,7 +8,6 @@ pub returns : goal.returns
 returns c =
     let h = c.args.self.now in
     let e = c.at.ensures in
-    let m = e.1.met in
     let x = c.args.wreck in
-    let t : Fell x.word x.touched (side_of h.turn h) e.0 = search (rules, of_calls) in
+    let t : Fell x.word x.touched (side_of h.turn h) e.0 = search rules in
     rw e.2 (dropped h h.turn x.word x.touched e.0 refl t)

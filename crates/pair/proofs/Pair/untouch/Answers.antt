@@ -1,4 +1,4 @@
-use Rattle.std.proofs.Common.{◌+◌, ap, ◌∙◌, arith, rules, of_calls}
+use Rattle.std.proofs.Common.{◌+◌, ap, ◌∙◌, arith, rules}
 use Rattle.side.specs.Sides.{untouched_by, Turns}
 use Rattle.pair.specs.Worlds.{side_of, world_of}
 use Rattle.pair.proofs.Sides.{turns}
@@ -8,7 +8,6 @@ pub returns-clause-after : goal.returns-clause-after
 returns-clause-after c =
     let h = c.args.self.now in
     let e = c.at.ensures in
-    let m = e.1.met in
     let f = untouched_by c.args.p in
-    let t : Turns (c.args.p + 1) (side_of h.turn h) f e.0 = search (rules, of_calls) in
+    let t : Turns (c.args.p + 1) (side_of h.turn h) f e.0 = search rules in
     ap world_of e.2 ∙ turns (c.args.p + 1) h h.turn f e.0 t (omega arith)
