@@ -1,8 +1,8 @@
 // Which of the two hosts.
 #![tactic(auto)]
 
-ghost use Rattle.std.specs.Prelude.{◌≡◌, Some};
-ghost use Rattle.who.specs.Numbers.{numb, Names, shown};
+ghost use Rattle.std.specs.Prelude.{◌≡◌, ◌++◌, Some, codes, decimal};
+ghost use Rattle.who.specs.Numbers.{numb, Names};
 
 use std::fmt;
 
@@ -34,26 +34,22 @@ impl From<Who> for u32 {
     ghost from_gives = { λ who r. r ≡ numb who };
 
     fn from(who: Who) -> u32 {
-        match who {
-            Who::Zero => 0,
-            Who::One => 1,
-        }
+        who as u32
     }
 }
 
 // A host is printed as its number.
 impl fmt::Display for Who {
-    ghost output = { λ who. Some (shown who) };
+    ghost output = { λ who. Some (decimal (numb who)) };
 
     fn fmt<W: fmt::Write>(&self, f: &mut fmt::Formatter<W>) -> fmt::Result {
-        f.write_str(match self {
-            Who::Zero => "0",
-            Who::One => "1",
-        })
+        write!(f, "{}", u32::from(*self))
     }
 }
 
 impl fmt::Display for NoHost {
+    ghost output = { λ e. Some (codes "no host has the number " ++ decimal e.0) };
+
     fn fmt<W: fmt::Write>(&self, f: &mut fmt::Formatter<W>) -> fmt::Result {
         write!(f, "no host has the number {}", self.0)
     }
