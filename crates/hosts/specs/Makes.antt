@@ -1,8 +1,8 @@
 -- How two hosts are made, and what is asked of them beside.
 -- Assumes nothing.
-use Rattle.std.specs.Prelude.{◌≡◌, ℕ, ◌+◌, ◌++◌, min, List, codes, Bool, cond, [], length, Some, None, Option, ◌==◌, nat_lt}
+use Rattle.std.specs.Prelude.{◌≡◌, ℕ, ◌+◌, ◌++◌, min, List, codes, decimal, Bool, cond, [], length, Some, None, Option, ◌==◌, nat_lt}
 use Rattle.moving.specs.Hosts.{World, AtStart}
-use Rattle.who.specs.Numbers.{shown}
+use Rattle.who.specs.Numbers.{numb}
 use Rattle.plan.specs.declared.Plan.{Plan}
 use Rattle.plan.specs.Plans.{calm}
 use Rattle.side.specs.declared.Lent.{Lent}
@@ -49,6 +49,6 @@ repeated b p = cond b (record p { again = min (p.again + 1) 4294967295 }) p
 
 -- How that is printed.
 abbrev pub guest_shown : Guest → List ℕ
-guest_shown (Runs h) = codes "runs " ++ shown h
-guest_shown (Stands h) = codes "stands " ++ shown h
-guest_shown (Lost h) = codes "lost " ++ shown h
+guest_shown (Runs h) = codes "runs " ++ decimal (numb h)
+guest_shown (Stands h) = codes "stands " ++ decimal (numb h)
+guest_shown (Lost h) = codes "lost " ++ decimal (numb h)

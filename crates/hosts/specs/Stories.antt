@@ -1,8 +1,8 @@
 -- What a log tells.
 -- Assumes nothing.
-use Rattle.std.specs.Prelude.{ℕ, ◌+◌, ◌-◌, ◌^◌, min, cond, List, [], ◌∷◌, ◌++◌, length, take, codes, nat_lt}
+use Rattle.std.specs.Prelude.{ℕ, ◌+◌, ◌-◌, ◌^◌, min, cond, List, [], ◌∷◌, ◌++◌, length, take, codes, decimal, nat_lt}
 use Rattle.who.specs.declared.Who.{Who}
-use Rattle.who.specs.Numbers.{shown}
+use Rattle.who.specs.Numbers.{numb}
 use Rattle.hosts.specs.declared.log.Event.{Event}
 use Rattle.hosts.specs.declared.log.What.{What}
 use Rattle.hosts.specs.declared.log.What.TheVariants.{Stop, Resume, Fall, Lost}
@@ -27,7 +27,7 @@ noted e s =
 
 -- How that is printed which happened to a host.
 abbrev pub printed : What → Who → List ℕ
-printed Stop h = codes "stop " ++ shown h
-printed Resume h = codes "resume " ++ shown h
-printed Fall h = codes "fall " ++ shown h
+printed Stop h = codes "stop " ++ decimal (numb h)
+printed Resume h = codes "resume " ++ decimal (numb h)
+printed Fall h = codes "fall " ++ decimal (numb h)
 printed Lost h = codes "lost"
