@@ -267,6 +267,7 @@ impl<'a> Hosts<'a> {
     }
 
     // A letter for the host whose turn it is, if it gets one.
+    #[tactic(auto, using(crate::proofs::Hands::next_as))]
     fn hand(&mut self) -> Option<[u64; 72]>
         ensures hands { HandsOver (hand_of self.old.pair.turn self.old.plan) (world_of self.old) result (world_of self.new) }
         ensures plan { self.new.plan ≡ handed self.old.pair.turn self.old.plan }
@@ -295,6 +296,7 @@ impl<'a> Hosts<'a> {
 }
 
 // The letter that is kept for the host whose turn it is at place i; the next where none is.
+#[tactic(auto, using(crate::proofs::Hands::again_some, crate::proofs::Hands::again_none))]
 fn again(pair: &mut Pair, i: u32) -> Option<[u64; 72]>
     ensures { HandsOver (Hand.Again i) (pairWorld pair.old) result (pairWorld pair.new) }
 {
