@@ -1,4 +1,4 @@
-use Rattle.std.proofs.Common.{sym, ◌∙◌, arith, eqb-true}
+use Rattle.std.proofs.Common.{sym, ◌∙◌, arith, eqb-true, length}
 use Rattle.moving.proofs.Passes.{went_on, asked_none}
 use Rattle.moving.proofs.Ways as ways
 use Rattle.moving.proofs.Ways.{SoFar, begin, then_call, posted, posts_ends, ends_ok, ends_call, unmade}
@@ -45,7 +45,7 @@ returns-in_err-scan-clause-keeps g c =
 pub returns-clause-line : goal.returns-clause-line
 returns-clause-line g c =
     let x = c.args.self.now in
-    let z = eqb-true x.window.len 0 (sym c.is_empty.ensures ∙ c.if-not-is_empty.false) in
+    let z = eqb-true (length x.window.pages) 0 (sym c.is_empty.ensures.is ∙ c.if-not-is_empty.false) in
     went_on c.in_ok-tell.ensures.line c.in_ok-tell.ensures.used.pages c.in_ok-scan.ensures.line (λ a. c.in_ok-scan.ensures.asked (asked_none x _ z a))
 
 pub returns-clause-keeps : goal.returns-clause-keeps
