@@ -19,7 +19,6 @@ use Rattle.moving.proofs.Letters.{wakes, woke, woke_committed, ack_legit, refuse
 use Rattle.moving.proofs.Steps.{seen}
 use Rattle.letter.specs.Words.{head}
 use Rattle.moving.specs.Calm.{Added, answer_head, reply_to, reply_of, SentIf}
-use Rattle.moving.proofs.Calms.{still_self}
 use Rattle.moving.proofs.Heard.{alone}
 
 -- CELLS stay while the guest writes
@@ -123,9 +122,5 @@ woken_is n {a = a} {b = b} {c = c} {x = x} {y = y} {z = z} e p q r s k =
     ∙ ap (λ v. cond v n (model.woke x y z n)) (sym e)
 
 -- WHAT THE OTHER GETS TO HEAR
-pub replied_none : (w : World) (n : Node) (t : ℕ) → n.asked ≡ Some t → None ≡ answer_in n.state t n.took → SentIf (reply_of n) w w
-replied_none w n t e f =
-    subst (λ a. SentIf (reply_to a n) w w) (sym e) (subst (λ a. SentIf (answer_head t a) w w) f (still_self w))
-
 pub replied : {w v : World} (n : Node) (t : ℕ) (a : Answer) → n.asked ≡ Some t → Some a ≡ answer_in n.state t n.took → Added (head a.kind t a.place 0) w v → SentIf (reply_of n) w v
 replied {w = w} {v = v} n t a e f s = subst (λ b. SentIf (reply_to b n) w v) (sym e) (subst (λ b. SentIf (answer_head t b) w v) f s)
