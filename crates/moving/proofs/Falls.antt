@@ -1,4 +1,4 @@
--- What an ask, a write of the guest and a step between rounds do to the flag `fell`.
+-- What a write of the guest and a step between rounds do to the flag `fell`.
 use Rattle.std.proofs.Common.{◌≡◌, refl}
 use Rattle.moving.specs.Hosts.{World, Goes, Between, rest, writes, asked}
 

@@ -124,7 +124,7 @@ pub fn tell<P: Place>(w: &mut P, kind: Kind, attempt: u64, place: u64) -> Result
     send(w, &l)
 }
 
-// A letter that has come, as 72 words, if there is one.
+// A letter that has come, as 72 words, if there is one. (As in `Place`: `Gets` speaks of the answer and of the words apart, and an Option would need more to say it.)
 pub fn recv<P: Place>(w: &mut P, into: &mut [u64]) -> Result<bool, Down>
     requires soon { Soon 1 (P.world w.old) }
     requires long { length into.old ≡ 72 }

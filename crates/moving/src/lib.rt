@@ -109,7 +109,8 @@ mod turning;
 
 use state::{Running, State};
 
-// What a host knows while it stands. took, top, committed: copies of cells 0, 1 and 2, right while it's awake;
+// What a host knows while it stands. me: its number, which tells its attempts (the remainder by 2) from the other's, so it stays a number.
+// took, top, committed: copies of cells 0, 1 and 2, right while it's awake (an Option of the three would be a case more in each line of the invariant);
 // asked: the attempt of the last probe or commit that it has heard in this turn.
 #[derive(Drop)]
 pub struct Node {
@@ -171,7 +172,7 @@ pub fn node_is_small() -> bool
 }
 
 // THE FIRST PROMISE. Whatever the guest writes, whatever the line does, whichever host falls, and however long the guest stands still:
-// `resume`, `stop` and `put` are only asked for when they may be.
+// `resume`, `stop` and `put` are only asked for when they may be. (The nights are counted by hand, as in the promise with both parts, whose text is fixed.)
 pub fn safe_nights<W: Place + AnySky>(w: &mut W, many: u64)
     requires starts { AtStart (W.world w.old) }
     requires few { many < 281474976710656 }

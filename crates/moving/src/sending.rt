@@ -118,7 +118,7 @@ impl Transfer {
         Ok(true)
     }
 
-    // Goes on with the pass, with so many asks at most.
+    // Goes on with the pass, with so many asks at most. (The cursor outlasts the turn, and a look costs one ask or three: a `for` would count neither.)
     fn scan<P: Place>(&mut self, w: &mut P, most: u32) -> Result<(), Down>
         requires soon { Soon most (P.world w.old) }
         requires none { length self.old.window.pages ≡ 0 }
