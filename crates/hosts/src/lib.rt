@@ -196,7 +196,8 @@ impl<'a> Hosts<'a> {
         }
     }
 
-    // Something is asked. True: the host will fall when it's done.
+    // Something is asked. True: the host will fall when it's done. (Each ask is `begin`, its deed and `end`. As one function over a closure its contract
+    // would have to tell a fall before the deed from one after it, with the hosts in between for each.)
     fn begin(&mut self) -> Result<bool, Down>
         requires { 0 < (world_of self.old).left }
         ensures { MatchResult result (λ due. Began self.old due self.new) (λ _. (d : World) (p : Plan) (s : Story) → Follows self.old d p s false self.new) }
@@ -315,7 +316,7 @@ fn whole<const N: usize>(words: &[u64]) -> &[u64; N]
     words.as_array().unwrap()
 }
 
-// A letter, if it is one, is put where it's asked for; whether it is one.
+// A letter, if it is one, is put where it's asked for; whether it is one: the trait, whose text is fixed, wants it so.
 fn put_into(letter: Option<[u64; 72]>, into: &mut [u64]) -> bool
     requires { length into.old ≡ 72 }
     ensures { MatchOption letter (result ≡ false) (λ l. (result ≡ true) × (into.new ≡ l)) }

@@ -37,6 +37,7 @@ impl fmt::Display for Event {
     }
 }
 
+// The memory is lent, of whatever length, so it's a slice with how much of it is in use: an `ArrayVec` owns memory of one size.
 #[derive(Drop)]
 pub struct Log<'a> {
     events: &'a mut [Event],

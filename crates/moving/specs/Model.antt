@@ -193,7 +193,8 @@ Windowed (Committed x) = Unit {0}
 abbrev pub AskedWell : Node → Type 0
 AskedWell n = (t : ℕ) → n.asked ≡ Some t → (t % 2 ≡ 1 - n.me) × (1 ≤ t) × (t ≤ n.top)
 
--- What holds of a node alone in its turn, once it has read its cells.
+-- What holds of a node alone in its turn, once it has read its cells. (Functions ask for it of the node with the state that was taken out of it,
+-- which isn't the node in memory; so it is in their clauses, and no invariant of the type.)
 pub record Tidy (n : Node) : Type 0 where
   pub awake : n.awake ≡ true
   pub windowed : Windowed n.state

@@ -81,7 +81,8 @@ pub trait Sky: Place {
         ensures { Self.world self.new ≡ rounded (Self.world self.old) };
 }
 
-// What no host sees, where a round may end at any time: nothing is asked of how long the guest stands still.
+// What no host sees, where a round may end at any time: nothing is asked of how long the guest stands still. (The text of `Sky` is fixed, so that
+// what the two have in common can't be taken out of it.)
 pub trait AnySky: Place {
     // whose turn it is; who has had one, stands (false: all is over)
     fn seat(&mut self, i: u32) -> bool

@@ -34,7 +34,7 @@ pub struct Write {
 pub struct Plan {
     pub zero: Fall,
     pub one: Fall,
-    // the n-th letter that is sent from here on is lost; 0: none
+    // the n-th letter that is sent from here on is lost; 0: none (a countdown too)
     pub lose: u32,
     // so often the oldest letter that is kept for host 1 comes there again, in front
     pub again: u32,

@@ -6,6 +6,7 @@ ghost use Rattle.moving.specs.Hosts.{rest'};
 ghost use Rattle.queue.specs.Queues.{letters_of, room_of, Pushed};
 
 // The letters stand in `slots` from `head` on. A letter is taken off by moving `head`, so that only every so often all are shifted to the front.
+// The memory is lent, of whatever length, so it's a slice with two numbers: an `ArrayVec` owns memory of one size.
 #[derive(Drop)]
 pub struct Queue<'a> {
     slots: &'a mut [[u64; 72]],

@@ -60,9 +60,8 @@ fn main(rt: HostRuntime) -> io::Result<()> {
     let mut memory = empty_memory!(4096);
     for pages in [1, 32, 256, 1024, 4096] {
         for writes in [0, 16] {
-            let hosts = match memory.hosts(pages) {
-                Ok(hosts) => hosts,
-                Err(refused) => return println!(rt; "{refused}"),
+            let Ok(hosts) = memory.hosts(pages) else {
+                return println!(rt; "no hosts");
             };
             let mut play = Play::new(hosts);
             let Took { rounds, still } = transfer(&mut play, writes);
