@@ -18,8 +18,8 @@ kind() { # kind NAME PATTERN: lines of src/ that fit
 echo "1 results, options, enums"
 kind '1a a buffer is filled, and a flag says whether' 'into: &mut \[.*-> (Result<)?bool'
 kind '1b an error that is matched only to be handed on' 'Err\((Down|_|e)\) => (return )?Err\('
-kind '1c a number that stands for none, or for a kind' 'NEVER|host: u32,|fn .*[( ]i: u32[,)].*(bool|Node|$)|^ +(pub )?(me|lose|ask|again): u(32|64),$'
-kind '1d a number or a flag for whether something was done' 'fn .*-> (Result<u32, Down>|u8)|fn push.*-> bool|fn (post|enter|end|round|run|next|sky_seat|seat)\(.*-> .*bool'
+kind '1c a number that stands for none, for a kind or for a host' 'NEVER|host: u32,|fn (seat|turn|new|sky_seat)\(.*i: u32|^ +(pub )?(me|lose|ask): u(32|64),$'
+kind '1d a number or a flag for whether something was done' 'fn (hear_one|look)<.*Result<u32|fn (push|next|round|end)\(.*-> .*bool|-> u8'
 kind '1e a reason for a refusal as an Option' '-> Option<Refused>'
 echo "2 twins"
 kind '2a one arm for host 0 and the same for host 1' 'Who::Zero => self\.(zero|one)\.|let fall = self\.(zero|one)'
@@ -30,7 +30,7 @@ kind '2e arrays of main, for each host and program' 'let mut (pages|touched|row|
 kind '2f a trait beside a trait' 'pub trait (AnySky|Sky)'
 echo "3 loops with an index by hand"
 kind '3a a while that counts' 'while .*(<|>)'
-kind '3b a for over indices of something' 'for [a-z]+ in [0-9].*\.\.'
+kind '3b a for over the indices of something' 'for [ip] in 0\.\.(n |all|self|EVENTS|10)'
 echo "4 equality, order, copying, conversion, printing by hand"
 kind '4a equality' 'fn is\(self'
 kind '4b conversion' 'fn (code|of|number)\('
