@@ -25,6 +25,10 @@ use Rattle.hosts.specs.Stories.{Story, story_of, noted}
 abbrev pub world_of : Hosts → World
 world_of h = pair.world_of h.pair
 
+-- What is planned and what was told are as they were.
+abbrev pub PlannedAsBefore : Hosts → Hosts → Type 0
+PlannedAsBefore h g = (g.plan ≡ h.plan) × (story_of g.log ≡ story_of h.log)
+
 -- Which host has that number.
 abbrev pub who_by : ℕ → Who
 who_by n = cond (n == 0) Zero One

@@ -9,7 +9,7 @@ ghost use Rattle.hosts.specs.Stories.{Story, story_of, noted};
 ghost use Rattle.pair.specs.Worlds.{world_of as pairWorld, closed};
 ghost use Rattle.plan.specs.Plans.{post_of, posted, hand_of, handed};
 ghost use Rattle.hosts.specs.Makes.{guest_shown, refusal_of, memory_of, row_of, kept_of, Made, guest_of, repeated};
-ghost use Rattle.hosts.specs.Follows.{world_of, event, Fell, fills, Follows, Plain, Tells, SentAs, sent_by, HandsOver, Hears, FallsHearing, wishes, BetweenAs, Began, Ended};
+ghost use Rattle.hosts.specs.Follows.{world_of, PlannedAsBefore, event, Fell, fills, Follows, Plain, Tells, SentAs, sent_by, HandsOver, Hears, FallsHearing, wishes, BetweenAs, Began, Ended};
 
 pub mod log;
 pub mod memory;
@@ -148,7 +148,7 @@ impl<'a> Hosts<'a> {
     pub fn may_want(&self) -> bool
         ensures { result ≡ ((world_of self.now).runs && not (world_of self.now).wish) }
     {
-        self.pair.runs & !self.pair.wish
+        self.pair.runs && !self.pair.wish
     }
 
     // The oldest letter that is kept for host 1 is to come there again, if there is one.
@@ -171,7 +171,7 @@ impl<'a> Hosts<'a> {
     // The end of a round, also of one that should not be; counts go up to 2^32 - 1.
     pub fn close(&mut self)
         ensures world { world_of self.new ≡ closed (world_of self.old) }
-        ensures same { (self.new.plan ≡ self.old.plan) × (story_of self.new.log ≡ story_of self.old.log) }
+        ensures same { PlannedAsBefore self.old self.new }
     {
         self.pair.round();
     }
@@ -234,12 +234,12 @@ impl<'a> Hosts<'a> {
     // The guest fills a page.
     fn fill(&mut self, write: Option<Write>)
         ensures world { world_of self.new ≡ fills write (world_of self.old) }
-        ensures same { (self.new.plan ≡ self.old.plan) × (story_of self.new.log ≡ story_of self.old.log) }
+        ensures same { PlannedAsBefore self.old self.new }
     {
         let Some(write) = write else {
             return;
         };
-        if self.pair.runs & (write.page < self.pair.count()) {
+        if self.pair.runs && write.page < self.pair.count() {
             let words = [write.word; 64];
             self.pair.write(write.page as usize, &words);
         }
@@ -288,9 +288,9 @@ impl<'a> Hosts<'a> {
     // Somebody wants the guest to be moved.
     fn wish(&mut self, wants: bool)
         ensures world { world_of self.new ≡ wishes wants (world_of self.old) }
-        ensures same { (self.new.plan ≡ self.old.plan) × (story_of self.new.log ≡ story_of self.old.log) }
+        ensures same { PlannedAsBefore self.old self.new }
     {
-        if wants & self.pair.runs & !self.pair.wish {
+        if wants && self.pair.runs && !self.pair.wish {
             self.pair.want();
         }
     }
@@ -463,7 +463,7 @@ impl<'a> Sky for Hosts<'a> {
         ensures seated { T result → world_of self.new ≡ seated i (world_of self.old) }
         ensures two { result ≡ nat_lt i 2 }
         ensures stays { result ≡ false → world_of self.new ≡ world_of self.old }
-        ensures same { (self.new.plan ≡ self.old.plan) × (story_of self.new.log ≡ story_of self.old.log) }
+        ensures same { PlannedAsBefore self.old self.new }
     {
         let Ok(who) = Who::try_from(i) else {
             return false;
@@ -475,7 +475,7 @@ impl<'a> Sky for Hosts<'a> {
     fn renew(&mut self)
         requires { (world_of self.old).fell ≡ true }
         ensures renewed { world_of self.new ≡ renewed (world_of self.old) }
-        ensures same { (self.new.plan ≡ self.old.plan) × (story_of self.new.log ≡ story_of self.old.log) }
+        ensures same { PlannedAsBefore self.old self.new }
     {
         self.pair.renew();
     }
@@ -493,7 +493,7 @@ impl<'a> Sky for Hosts<'a> {
     fn round(&mut self)
         requires { T (InTime (world_of self.old)) }
         ensures rounded { world_of self.new ≡ rounded (world_of self.old) }
-        ensures same { (self.new.plan ≡ self.old.plan) × (story_of self.new.log ≡ story_of self.old.log) }
+        ensures same { PlannedAsBefore self.old self.new }
     {
         self.pair.round();
     }
