@@ -7,7 +7,7 @@ use window::Window;
 // window: pages that were sent and aren't acknowledged. unsent: pages that were never sent in this attempt.
 // A pass looks at all pages in their order: cursor is the next; sent, how many it has sent; turns, how many turns it has had.
 // prev: the turns of the pass before, if one came before.
-#[derive(Drop)]
+#[derive(Clone, Drop)]
 pub struct Transfer {
     pub attempt: u64,
     pub window: Window,
@@ -19,8 +19,8 @@ pub struct Transfer {
 }
 
 // The pages of an attempt are put; next: the place of the next one.
-// It can't be copied, so that a right comes from it once.
-#[derive(Drop, Debug, PartialEq, Eq)]
+// It isn't copied by itself, so that who gives it up for a right has it no more.
+#[derive(Clone, Debug, Drop, PartialEq, Eq)]
 pub struct Receiving {
     pub attempt: u64,
     pub next: u64,
@@ -41,8 +41,8 @@ pub struct Paused {
 }
 
 // The attempt is committed; mine: this host hasn't fallen since, so that its pages are the guest's memory still.
-// It can't be copied either.
-#[derive(Drop, Debug, PartialEq, Eq)]
+// It isn't copied by itself either.
+#[derive(Clone, Debug, Drop, PartialEq, Eq)]
 pub struct Committed {
     pub attempt: u64,
     pub mine: bool,

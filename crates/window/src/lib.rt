@@ -11,7 +11,7 @@ use std::marker::Model;
 // The most pages that a window holds: `most` in the contracts.
 pub const CAPACITY: usize = 62;
 
-#[derive(Drop)]
+#[derive(Clone, Drop)]
 pub struct Window {
     pages: ArrayVec<u32, CAPACITY>,
     base: u64,
