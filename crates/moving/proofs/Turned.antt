@@ -2,6 +2,7 @@
 -- Assumes nothing.
 use Rattle.std.proofs.Common.{◌≡◌, ℕ, ◌-◌, ◌%◌, ◌<◌, ◌≤◌, Bool, true, false, cond, ◌&&◌, eqb, ltb, leb, List, [], Some, None, Option, sym, refl, ap, ◌∙◌, subst, arith, eqb-true, eq-eqb, ne_eqb, lt-ltb, le-ltb}
 use borrow.Author.Tests.{eqb-false}
+use mathlib.Core.Path.{subst⁻¹}
 use Rattle.std.proofs.lemmas.Bool.{leb-true, leb-false}
 use Rattle.letter.specs.declared.Kind.TheVariants.{Ack, Refuse, Taken}
 use Rattle.letter.specs.Words.{spelt}
@@ -56,6 +57,12 @@ hush h =
 
 pub hush_whole : {i m : ℕ} {x : List (List ℕ)} {n o : Node} {w : World} → Whole i m x n o w → Whole i m x (silent n) o w
 hush_whole h = alone h (hush h.both)
+
+abbrev pub asking : Option ℕ → Node → Node
+asking a n = record { me = n.me; awake = n.awake; took = n.took; top = n.top; committed = n.committed; asked = a; state = n.state }
+
+pub hushed_whole : {i m : ℕ} {x : List (List ℕ)} {n o : Node} {w : World} (a : Option ℕ) → a ≡ None → Whole i m x n o w → Whole i m x (asking a n) o w
+hushed_whole {i = i} {m = m} {x = x} {n = n} {o = o} {w = w} a e h = subst⁻¹ (λ a. Whole i m x (asking a n) o w) e (hush_whole h)
 
 some_answer : {a b : Answer} → ◌≡◌ {A = Option Answer} (Some a) (Some b) → a ≡ b
 some_answer e = cc

@@ -1,6 +1,6 @@
 -- A way through a function: what was done so far, one more thing done, and how it ends.
 -- Assumes nothing.
-use Rattle.std.proofs.Common.{◌≡◌, ℕ, ◌+◌, ◌≤◌, Bool, true, false, not, List, [], ◌∷◌, is_ok, is_err, IfOk, Ok, Err, Result, sym, refl, subst, arith}
+use Rattle.std.proofs.Common.{◌≡◌, ℕ, ◌+◌, ◌≤◌, Bool, true, false, not, List, [], ◌∷◌, is_ok, is_err, IfOk, OnOk, Ok, Err, Result, sym, refl, subst, arith}
 use borrow.Author.Tests.{both_ways, not-true}
 use Rattle.moving.specs.declared.Down.{Down}
 use Rattle.moving.specs.declared.Node.{Node}
@@ -70,6 +70,11 @@ ends_call j f (Err r) e s g p = record { whole = λ i z o u. more_whole (omega a
 pub ends_tail : {A : Type 0} {x y : List (List ℕ)} {n m : Node} {f : A → Node} {w v t : World} {k c : ℕ} {r : Result A Down} (j : ℕ) → SoFar x n w k y m v → Keeps c y m v r f t → k + c ≤ j → Keeps j x n w r f t
 ends_tail {r = Ok r} j s g q = record { whole = λ i z o h. more_whole (omega arith) (g.whole i _ o (s.whole i z o h)) }
 ends_tail {r = Err r} j s g q = record { whole = λ i z o h. more_whole (omega arith) (g.whole i _ o (s.whole i z o h)) }
+
+-- what two clauses say of it says a third
+pub on_both : {A P Q R : Type 0} (r : Result A Down) → (P → Q → R) → OnOk r P → OnOk r Q → OnOk r R
+on_both (Ok a) f p q = f p q
+on_both (Err e) f p q = tt
 
 -- LETTERS
 pub got : {x : List (List ℕ)} {n m : Node} {w v t : World} {k : ℕ} {b : Bool} {l : List ℕ} → SoFar x n w k [] m v → Gets v (Ok b) l t → SoFar x n w (k + 0) (in_hand b l) m t

@@ -161,8 +161,7 @@ impl Node {
         let left = self.wake(w)?;
         let left = self.hear(w, left)?;
         self.act(w, left - 1)?;
-        self.reply(w)?;
-        Ok(())
+        self.reply(w)
     }
 }
 
