@@ -1,6 +1,7 @@
 -- What a node does by itself: all stays whole, and what holds of the node alone.
 -- Assumes nothing.
 use Rattle.std.proofs.Common.{Ok, is_ok, ◌≡◌, ℕ, ◌+◌, ◌%◌, ◌<◌, ◌≤◌, min, Bool, true, false, ltb, List, Option, Some, None, [], is_err, Result, sym, refl, ap, ◌∙◌, subst, inl, inr, arith, lt-ltb, length}
+use Rattle.moving.specs.Acted.{commits}
 use mathlib.Core.Path.{subst⁻¹}
 use Rattle.std.proofs.lemmas.Bool.{cases_lt}
 use Rattle.letter.specs.declared.Kind.TheVariants.{Commit}
@@ -18,7 +19,6 @@ use Rattle.moving.specs.Hosts.{World, Posts, Posts.posts, MayResume, me, kept, h
 use Rattle.moving.specs.Model.{bare, recount, ticked, anew, afresh, on_state, on_top, AskedWell, Tidy}
 use Rattle.moving.specs.Scan.{Looks, Looks.none, Looks.more, GoneOn}
 use Rattle.moving.specs.Invariant.{unsent, Whole, Keeps}
-use Rattle.moving.proofs.Moves.{settled}
 use Rattle.moving.proofs.Scans.{recount_copying, recount_paused}
 use Rattle.moving.proofs.Letters.{recommit, recount_committed, commit_legit}
 use Rattle.moving.proofs.Steps.{more_whole, sends_whole, commit_whole, attempt_whole, again_whole, stop_whole, told_whole, untold_whole}
@@ -42,8 +42,8 @@ pub tells_ends : {A : Type 0} {n m : Node} {w v t : World} {k : ℕ} (j : ℕ) (
 tells_ends j z f r q e d s p = posts_ends j f r q e s (λ i x o h. commit_legit (spelt (bare Commit z.attempt 0)) z d refl refl h.both) p
 
 -- COMMIT
-pub settle_whole : {i m : ℕ} {x : List (List ℕ)} {o : Node} {w : World} (n : Node) (z : Pause) → z.right.attempt ≡ z.transfer.attempt → length z.transfer.window.pages ≡ 0 → z.transfer.cursor ≡ w.pages → Whole i m x (on_state (Paused z) n) o w → Whole i m x (settled z.transfer.attempt n) o (kept 2 z.right.attempt w)
-settle_whole {i = i} {m = m} {x = x} {o = o} {w = w} n z e len cur h = subst⁻¹ (λ a. Whole i m x (settled z.transfer.attempt n) o (kept 2 a w)) e (commit_whole z refl len cur h)
+pub settle_whole : {i m : ℕ} {x : List (List ℕ)} {o : Node} {w : World} (n : Node) (z : Pause) → z.right.attempt ≡ z.transfer.attempt → length z.transfer.window.pages ≡ 0 → z.transfer.cursor ≡ w.pages → Whole i m x (on_state (Paused z) n) o w → Whole i m x (commits z.transfer.attempt n) o (kept 2 z.right.attempt w)
+settle_whole {i = i} {m = m} {x = x} {o = o} {w = w} n z e len cur h = subst⁻¹ (λ a. Whole i m x (commits z.transfer.attempt n) o (kept 2 a w)) e (commit_whole z refl len cur h)
 
 -- A NEW ATTEMPT
 pub new_whole : {i m : ℕ} {x : List (List ℕ)} {o : Node} {w : World} (n : Node) (d : Transfer) (t p : ℕ) → n.state ≡ Running (record { wanted = true }) → n.awake ≡ true → n.top < t → t ≤ n.top + 2 → t % 2 ≡ n.me → d.attempt ≡ t → length d.window.pages ≡ 0 → d.window.base ≡ 0 → p ≡ w.pages → ((q : ℕ) → unsent d q ≡ ltb q p) → Whole i m x n o w → Whole i (m + 2) x (on_top t (Copying d) n) o (kept 1 t w)

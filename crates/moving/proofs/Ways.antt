@@ -103,10 +103,6 @@ pub ready : {x y : List (List ℕ)} {n m : Node} {w v : World} {k c d : ℕ} →
 ready h p s =
     let q = h.room in record { i = h.i; m = _; o = h.o; room = omega arith; whole = s.whole h.i h.m h.o h.whole }
 
--- what was said, was said
-pub said : {A E : Type 0} {a b : A} → ◌≡◌ {A = Result A E} (Ok a) (Ok b) → a ≡ b
-said e = cc
-
 -- of a result that is an error nothing is claimed
 pub unmade : {A : Type 0} (r : Result A Down) (P : A → Type 0) → is_err r ≡ true → IfOk r P
 unmade (Ok x) P e = absurd (both_ways false refl e)
