@@ -1,6 +1,6 @@
 -- What a node does by itself: all stays whole, and what holds of the node alone.
 -- Assumes nothing.
-use Rattle.std.proofs.Common.{Ok, is_ok, ◌≡◌, ℕ, ◌+◌, ◌%◌, ◌<◌, ◌≤◌, min, Bool, true, false, ltb, List, Option, Some, None, [], is_err, Result, sym, refl, ap, ◌∙◌, subst, inl, inr, arith, lt-ltb, length}
+use Rattle.std.proofs.Common.{Ok, is_ok, ◌≡◌, ℕ, ◌+◌, ◌%◌, ◌<◌, ◌≤◌, min, Bool, true, false, ltb, List, Option, Some, None, [], Result, sym, refl, ap, ◌∙◌, subst, inl, inr, arith, lt-ltb, length}
 use Rattle.moving.specs.Acted.{commits}
 use mathlib.Core.Path.{subst⁻¹}
 use Rattle.std.proofs.lemmas.Bool.{cases_lt}
@@ -15,13 +15,13 @@ use Rattle.moving.specs.declared.state.Paused.{Paused as Pause}
 use Rattle.moving.specs.declared.state.Committed.{Committed as Commitment}
 use Rattle.moving.specs.declared.state.State.{State}
 use Rattle.moving.specs.declared.state.State.TheVariants.{Running, Copying, Paused, Committed}
-use Rattle.moving.specs.Hosts.{World, Posts, Posts.posts, MayResume, me, kept, heard, stopped, resumed}
+use Rattle.moving.specs.Hosts.{World, Posts, MayResume, me, kept, heard, stopped, resumed}
 use Rattle.moving.specs.Model.{bare, recount, ticked, anew, afresh, on_state, on_top, AskedWell, Tidy}
 use Rattle.moving.specs.Scan.{Looks, Looks.none, Looks.more, GoneOn}
 use Rattle.moving.specs.Invariant.{unsent, Whole, Keeps}
 use Rattle.moving.proofs.Scans.{recount_copying, recount_paused}
 use Rattle.moving.proofs.Letters.{recommit, recount_committed, commit_legit}
-use Rattle.moving.proofs.Steps.{more_whole, sends_whole, commit_whole, attempt_whole, again_whole, stop_whole, told_whole, untold_whole}
+use Rattle.moving.proofs.Steps.{more_whole, commit_whole, attempt_whole, again_whole, stop_whole, told_whole, untold_whole}
 use Rattle.moving.proofs.Ways.{SoFar, begin, fine, then_so, posts_ends, ends_tail}
 use Rattle.moving.proofs.Heard.{alone, put_back}
 

@@ -20,8 +20,6 @@ use Rattle.moving.specs.Invariant.{Whole, Both, View, Legit, NotReceiving, flip}
 use Rattle.moving.proofs.Moves.{clash, receiving_same, none_some}
 use Rattle.moving.proofs.Letters.{wakes, woke, woke_committed, ack_legit, refuse_legit, taken_legit}
 use Rattle.moving.proofs.Steps.{seen}
-use Rattle.letter.specs.Words.{head}
-use Rattle.moving.specs.Calm.{Added, answer_head, reply_to, reply_of, SentIf}
 use Rattle.moving.proofs.Heard.{alone}
 
 -- CELLS stay while the guest writes

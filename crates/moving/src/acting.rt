@@ -83,7 +83,7 @@ impl Node {
         Ok(transfer)
     }
 
-    // The guest runs here: if it is to be moved, an attempt begins.
+    // The guest runs here: if it is to be moved, an attempt begins. (Here and below, w and most are no struct: a borrow in a struct would be in every clause.)
     fn run<P: Place>(&mut self, w: &mut P, x: Running, most: u32) -> Result<(), Down>
         requires soon { Soon most (P.world w.old) }
         requires tidy { Tidy (on_state (State.Running x) self.old) }
