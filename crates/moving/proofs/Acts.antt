@@ -1,6 +1,7 @@
 -- What a node does by itself: all stays whole, and what holds of the node alone.
 -- Assumes nothing.
-use Rattle.std.proofs.Common.{◌≡◌, ℕ, ◌+◌, ◌%◌, ◌<◌, ◌≤◌, min, Bool, true, false, ltb, List, Option, Some, None, [], is_err, Result, sym, refl, ap, ◌∙◌, subst, inl, inr, arith, lt-ltb, length}
+use Rattle.std.proofs.Common.{Ok, is_ok, ◌≡◌, ℕ, ◌+◌, ◌%◌, ◌<◌, ◌≤◌, min, Bool, true, false, ltb, List, Option, Some, None, [], Result, sym, refl, ap, ◌∙◌, subst, inl, inr, arith, lt-ltb, length}
+use Rattle.moving.specs.Acted.{commits}
 use mathlib.Core.Path.{subst⁻¹}
 use Rattle.std.proofs.lemmas.Bool.{cases_lt}
 use Rattle.letter.specs.declared.Kind.TheVariants.{Commit}
@@ -14,15 +15,14 @@ use Rattle.moving.specs.declared.state.Paused.{Paused as Pause}
 use Rattle.moving.specs.declared.state.Committed.{Committed as Commitment}
 use Rattle.moving.specs.declared.state.State.{State}
 use Rattle.moving.specs.declared.state.State.TheVariants.{Running, Copying, Paused, Committed}
-use Rattle.moving.specs.Hosts.{World, Posts, Posts.posts, MayResume, me, kept, heard, stopped, resumed}
+use Rattle.moving.specs.Hosts.{World, Posts, MayResume, me, kept, heard, stopped, resumed}
 use Rattle.moving.specs.Model.{bare, recount, ticked, anew, afresh, on_state, on_top, AskedWell, Tidy}
 use Rattle.moving.specs.Scan.{Looks, Looks.none, Looks.more, GoneOn}
 use Rattle.moving.specs.Invariant.{unsent, Whole, Keeps}
-use Rattle.moving.proofs.Moves.{settled}
 use Rattle.moving.proofs.Scans.{recount_copying, recount_paused}
 use Rattle.moving.proofs.Letters.{recommit, recount_committed, commit_legit}
-use Rattle.moving.proofs.Steps.{more_whole, sends_whole, commit_whole, attempt_whole, again_whole, stop_whole, told_whole, untold_whole}
-use Rattle.moving.proofs.Ways.{SoFar, begin, fine, then_so, posted, ends_err, ends_tail}
+use Rattle.moving.proofs.Steps.{more_whole, commit_whole, attempt_whole, again_whole, stop_whole, told_whole, untold_whole}
+use Rattle.moving.proofs.Ways.{SoFar, begin, fine, then_so, posts_ends, ends_tail}
 use Rattle.moving.proofs.Heard.{alone, put_back}
 
 -- TOLD
@@ -38,16 +38,12 @@ told_any {i = i} {m = m} {x = x} {o = o} {w = w} n z b e f h = go b (sym f)
 pub again_so : {w : World} (n : Node) (z : Commitment) (t : ℕ) → w.fell ≡ false → SoFar [] (on_state (Committed z) n) w (0 + 0) [] (on_state (Committed (recommit z t)) n) w
 again_so {w = w} n z t up = then_so 0 (begin [] (on_state (Committed z) n) w up) (fine (λ i k o h. alone h (recount_committed z t refl h.both)))
 
-pub tells : {n m : Node} {w v t : World} {k : ℕ} (z : Commitment) → m.state ≡ Committed z → SoFar [] n w k [] m v → Posts v (spelt (bare Commit z.attempt 0)) true t → SoFar [] n w (k + 0) [] m t
-tells z e s p = posted s (λ i x o h. commit_legit (spelt (bare Commit z.attempt 0)) z e refl refl h.both) p
-
-pub tells_err : {A : Type 0} {n m : Node} {w v t : World} {k : ℕ} (j : ℕ) (z : Commitment) (f : A → Node) (r : Result A Down) → is_err r ≡ true → m.state ≡ Committed z → SoFar [] n w k [] m v → Posts v (spelt (bare Commit z.attempt 0)) false t → k ≤ j → Keeps j [] n w r f t
-tells_err j z f r e q s (posts d c v g k) p =
-    ends_err j 0 f r e (omega arith) s k (fine (λ i x o h. sends_whole g (commit_legit (spelt (bare Commit z.attempt 0)) z q refl refl h.both) h))
+pub tells_ends : {A : Type 0} {n m : Node} {w v t : World} {k : ℕ} (j : ℕ) (z : Commitment) (f : A → Node) (r : Result A Down) → k ≤ j → ((a : A) → r ≡ Ok a → f a ≡ m) → m.state ≡ Committed z → SoFar [] n w k [] m v → Posts v (spelt (bare Commit z.attempt 0)) (is_ok r) t → Keeps j [] n w r f t
+tells_ends j z f r q e d s p = posts_ends j f r q e s (λ i x o h. commit_legit (spelt (bare Commit z.attempt 0)) z d refl refl h.both) p
 
 -- COMMIT
-pub settle_whole : {i m : ℕ} {x : List (List ℕ)} {o : Node} {w : World} (n : Node) (z : Pause) → z.right.attempt ≡ z.transfer.attempt → length z.transfer.window.pages ≡ 0 → z.transfer.cursor ≡ w.pages → Whole i m x (on_state (Paused z) n) o w → Whole i m x (settled z.transfer.attempt n) o (kept 2 z.right.attempt w)
-settle_whole {i = i} {m = m} {x = x} {o = o} {w = w} n z e len cur h = subst⁻¹ (λ a. Whole i m x (settled z.transfer.attempt n) o (kept 2 a w)) e (commit_whole z refl len cur h)
+pub settle_whole : {i m : ℕ} {x : List (List ℕ)} {o : Node} {w : World} (n : Node) (z : Pause) → z.right.attempt ≡ z.transfer.attempt → length z.transfer.window.pages ≡ 0 → z.transfer.cursor ≡ w.pages → Whole i m x (on_state (Paused z) n) o w → Whole i m x (commits z.transfer.attempt n) o (kept 2 z.right.attempt w)
+settle_whole {i = i} {m = m} {x = x} {o = o} {w = w} n z e len cur h = subst⁻¹ (λ a. Whole i m x (commits z.transfer.attempt n) o (kept 2 a w)) e (commit_whole z refl len cur h)
 
 -- A NEW ATTEMPT
 pub new_whole : {i m : ℕ} {x : List (List ℕ)} {o : Node} {w : World} (n : Node) (d : Transfer) (t p : ℕ) → n.state ≡ Running (record { wanted = true }) → n.awake ≡ true → n.top < t → t ≤ n.top + 2 → t % 2 ≡ n.me → d.attempt ≡ t → length d.window.pages ≡ 0 → d.window.base ≡ 0 → p ≡ w.pages → ((q : ℕ) → unsent d q ≡ ltb q p) → Whole i m x n o w → Whole i (m + 2) x (on_top t (Copying d) n) o (kept 1 t w)

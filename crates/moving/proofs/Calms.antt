@@ -1,8 +1,9 @@
 -- What asks do over which nobody fell: the line, what was written, and the counts of a round.
 -- Assumes nothing.
-use Rattle.std.proofs.Common.{◌≡◌, ℕ, ◌+◌, ◌-◌, ◌<◌, ◌≤◌, Bool, true, false, cond, ◌&&◌, T, eqb, ltb, List, [], ◌∷◌, ◌++◌, length, take, is_ok, IfOk, Ok, Err, Result, sym, refl, ap, ◌∙◌, subst, inl, inr, arith}
+use Rattle.std.proofs.Common.{◌≡◌, ℕ, ◌+◌, ◌-◌, ◌<◌, ◌≤◌, Bool, true, false, cond, T, eqb, ltb, List, [], ◌∷◌, ◌++◌, length, take, is_ok, IfOk, Ok, Err, Result, sym, refl, ap, ◌∙◌, subst, inl, inr, arith}
+use Rattle.moving.proofs.Views.{put_other}
 use borrow.Author.Tests.{both_ways}
-use Rattle.std.proofs.lemmas.Bool.{cases_eq, cases_lt, eq-eqb, ne_eqb, lt-ltb, le-ltb, eqb-true}
+use Rattle.std.proofs.lemmas.Bool.{cases_eq, cases_lt, eq-eqb, ne_eqb, lt-ltb, le-ltb, eqb-true, and_parts}
 use Rattle.pageset.specs.Count.{count}
 use Rattle.pageset.proofs.Counts.{count_same, count_but_one, count_mono}
 use Rattle.letter.specs.declared.Letter.{Letter}
@@ -42,13 +43,10 @@ wrote_busy b h = elim (cases_lt b 17) [ inl l ↦ rw (lt-ltb b 17 l) | inr l ↦
     not_17 : (b : ℕ) → 17 ≤ b → 17 ≤ 16 → ⊥
     not_17 b l h = omega arith
 
-put_flag_other : {A : Type 0} (k : ℕ) (y : A) (f : ℕ → A) (q : ℕ) → (q ≡ k → ⊥) → put k y f q ≡ f q
-put_flag_other k y f q n = rw (ne_eqb q k n)
-
 -- the flags of host i after a page of the guest's was written
 wrote_flag : (h : Host) (f : ℕ → Host) (p last i q : ℕ) → h.touched ≡ put p true (f last).touched → (q ≡ p → ⊥) → (put last h f i).touched q ≡ (f i).touched q
 wrote_flag h f p last i q e d =
-    elim (cases_eq i last) [ inl s ↦ rw (eq-eqb i last s) (ap (λ (z : ℕ → Bool). z q) e ∙ put_flag_other p true (f last).touched q d ∙ ap (λ (z : ℕ). (f z).touched q) (sym s)) | inr n ↦ rw (ne_eqb i last n) ]
+    elim (cases_eq i last) [ inl s ↦ rw (eq-eqb i last s) (ap (λ (z : ℕ → Bool). z q) e ∙ put_other p q true (f last).touched d ∙ ap (λ (z : ℕ). (f z).touched q) (sym s)) | inr n ↦ rw (ne_eqb i last n) ]
 
 wrote_calm : {w : World} (p : ℕ) (ws : List ℕ) → Calmly w (wrote p ws w)
 wrote_calm {w = w} p ws =
@@ -83,7 +81,7 @@ pub goes_row : {w v : World} → Goes w v → (i : ℕ) → (v.host i).row ≡ (
 goes_row (rest w) i = refl
 goes_row (writes {w} p ws t l e g) i = goes_row g i ∙ put_row w.last _ w.host i refl
 
-goes_turn : {w v : World} → Goes w v → v.turn ≡ w.turn
+pub goes_turn : {w v : World} → Goes w v → v.turn ≡ w.turn
 goes_turn (rest w) = refl
 goes_turn (writes p ws t l e g) = goes_turn g
 
@@ -188,14 +186,10 @@ untouched_plain w p = own_plain w _ (λ q e. cleared p q (me w).touched e) refl
 pub stopped_plain : (w : World) → Plain w (stopped w)
 stopped_plain w = record { deed = record { turn = refl; rough = λ e. e; wish = λ e. (e, refl); busy = refl; flag = λ i q e. e }; row = λ i. refl }
 
-and_both : (a b : Bool) → (a && b) ≡ true → (a ≡ true) × (b ≡ true)
-and_both true b e = (refl, e)
-and_both false b e = absurd (both_ways false refl e)
-
 pub resumed_plain : (w : World) (x : ℕ) → Plain w (resumed x w)
 resumed_plain w x =
     let k = kept_plain w 0 x in
-    record { deed = record { turn = refl; rough = λ e. e; wish = λ e. let p = and_both w.wish _ e in (p.0, sym (eqb-true w.last w.turn p.1)); busy = refl; flag = k.deed.flag }; row = k.row }
+    record { deed = record { turn = refl; rough = λ e. e; wish = λ e. let p = and_parts w.wish _ e in (p.0, sym (eqb-true w.last w.turn p.1)); busy = refl; flag = k.deed.flag }; row = k.row }
 
 pub resumed_rests : (w : World) (x : ℕ) → Rests w (resumed x w)
 resumed_rests w x e = absurd (both_ways true e refl)

@@ -1,6 +1,7 @@
 -- What the parts of a transfer do, for every node that has it.
 -- Assumes nothing.
 use Rattle.std.proofs.Common.{◌≡◌, ℕ, ◌+◌, ◌-◌, ◌<◌, ◌≤◌, Bool, true, false, not, ◌&&◌, ◌||◌, eqb, List, Option, [], ◌∷◌, is_ok, is_err, Some, Ok, Err, Result, sym, refl, ap, ◌∙◌, subst, subst₂, inl, inr, arith, eq-eqb, ne_eqb, length}
+use Rattle.std.proofs.lemmas.Option.{same_Some}
 use Rattle.std.proofs.lemmas.List.{length_push, get_or_push, get_or_append_left}
 use borrow.Author.Tests.{both_ways}
 use Rattle.std.proofs.lemmas.Bool.{cases_lt, cases_eq}
@@ -19,7 +20,7 @@ use Rattle.moving.specs.Hosts.{World, Does, Posts, untouched, me}
 use Rattle.moving.specs.Model.{moving, carries, carrying, on_state, recount, bare}
 use Rattle.moving.specs.Invariant.{slot, end, unsent, Whole, Carried, Pushed}
 use Rattle.moving.specs.Scan.{Below, grows}
-use Rattle.moving.proofs.Moves.{none_some, some_same}
+use Rattle.moving.proofs.Moves.{none_some}
 use Rattle.moving.proofs.Letters.{page_legit, probe_legit}
 use Rattle.moving.proofs.Scans.{clear, skip_paused}
 use Rattle.moving.proofs.Steps.{more_whole, step_page, own_whole, push_copying_whole, push_paused_whole, skip_copying_whole}
@@ -30,8 +31,8 @@ pub carries_self : (s : State) (c : Transfer) → moving s ≡ Some c → carrie
 carries_self Away c e = none_some e
 carries_self (Receiving r) c e = none_some e
 carries_self (Running r) c e = none_some e
-carries_self (Copying d) c e = ap Copying (sym (some_same e))
-carries_self (Paused x) c e = ap (λ d. Paused (record { transfer = d; right = x.right; turns = x.turns })) (sym (some_same e))
+carries_self (Copying d) c e = ap Copying (sym (same_Some _ _ e))
+carries_self (Paused x) c e = ap (λ d. Paused (record { transfer = d; right = x.right; turns = x.turns })) (sym (same_Some _ _ e))
 carries_self (Committed x) c e = none_some e
 
 pub carries_has : (s : State) (c d : Transfer) → moving s ≡ Some c → moving (carries d s) ≡ Some d
@@ -86,10 +87,10 @@ push_carrying {i = i} {m = m} {x = x} {n = n} {o = o} {w = w} c d has k cur lt h
     go (Running r) e f = none_some f
     go (Copying b) e f =
         let q = (h.both.ours.copy.carries c has).most in
-        push_copying_whole c d c.cursor (e ∙ ap Copying (some_same f)) k lt (omega arith) (more_whole (omega arith) h)
+        push_copying_whole c d c.cursor (e ∙ ap Copying (same_Some _ _ f)) k lt (omega arith) (more_whole (omega arith) h)
     go (Paused z) e f =
         let q = (h.both.ours.copy.carries c has).most in
-        let t : z.transfer ≡ c = some_same f in
+        let t : z.transfer ≡ c = same_Some _ _ f in
         subst (λ b. Whole i (m + 1) x (on_state (Paused (record { transfer = d; right = z.right; turns = z.turns })) n) o (untouched b.cursor w)) t
         (push_paused_whole z (record { transfer = d; right = z.right; turns = z.turns }) e (subst (λ b. Pushed b d b.cursor) (sym t) k) (cur ∙ ap (λ (b : Transfer). b.cursor + 1) (sym t)) (subst (λ b. b.cursor < w.pages) (sym t) lt) (subst (λ b. end b < m + 1) (sym t) (omega arith)) (more_whole (omega arith) h))
     go (Committed z) e f = none_some f
@@ -101,9 +102,9 @@ skip_carrying {i = i} {m = m} {x = x} {n = n} {o = o} {w = w} c s t v has f g h 
     go Away e k = none_some k
     go (Receiving r) e k = none_some k
     go (Running r) e k = none_some k
-    go (Copying b) e k = skip_copying_whole c c.cursor (c.cursor + 1) s t v (e ∙ ap Copying (some_same k)) f h
+    go (Copying b) e k = skip_copying_whole c c.cursor (c.cursor + 1) s t v (e ∙ ap Copying (same_Some _ _ k)) f h
     go (Paused z) e k =
-        let q : z.transfer ≡ c = some_same k in
+        let q : z.transfer ≡ c = same_Some _ _ k in
         subst (λ b. Whole i m x (on_state (Paused (record { transfer = recount b (b.cursor + 1) s t v; right = z.right; turns = z.turns })) n) o (untouched b.cursor w)) q
         (own_whole (clear z.transfer.cursor (me w)) h (skip_paused z s t v z.turns e (subst (λ b. (me w).touched b.cursor ≡ false) (sym q) f) (subst (λ b. unsent b b.cursor ≡ false) (sym q) g) h.both))
     go (Committed z) e k = none_some k
@@ -116,13 +117,6 @@ pushed_below c d below p cur k lt =
       | inl b ↦ let z = below k b in let y = p.old k b in omega arith
       | inr b ↦ let q : k ≡ length c.window.pages = omega arith in let y : slot d k ≡ c.cursor = ap (slot d) q ∙ p.last in omega arith
     ]
-
-pub or_left : {a : Bool} (b : Bool) → a ≡ true → (a || b) ≡ true
-or_left b e = rw e refl
-
-pub or_right : {b : Bool} (a : Bool) → b ≡ true → (a || b) ≡ true
-or_right true e = refl
-or_right false e = e
 
 -- a page that isn't in the set can be taken out of it
 pub skip_unsent : (s : PageSet) (p : ℕ) → member s p ≡ false → (q : ℕ) → member s q ≡ (not (eqb q p) && member s q)

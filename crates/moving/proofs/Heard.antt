@@ -1,6 +1,7 @@
 -- What a letter makes of a node: all stays whole, and what holds of the node alone.
 -- Assumes nothing.
 use Rattle.std.proofs.Common.{◌≡◌, ℕ, ◌+◌, ◌-◌, ◌%◌, ◌<◌, ◌≤◌, Bool, true, false, cond, ◌&&◌, eqb, ltb, leb, List, [], ◌∷◌, ◌++◌, length, Some, Ok, sym, refl, ap, ◌∙◌, subst, subst₂, inl, inr, arith, ltb-true, eqb-true, leb-true}
+use Rattle.std.proofs.lemmas.Option.{same_Some}
 use Rattle.std.proofs.lemmas.List.{length-drop, get_or-drop}
 use mathlib.Core.Path.{subst⁻¹}
 use mathlib.Core.List.Memᴰ
@@ -27,9 +28,6 @@ use Rattle.moving.proofs.Letters.{let_go}
 use Rattle.moving.proofs.Steps.{went_whole, may_resume, seen, begin_whole, put_whole, take_whole, refused_whole}
 use Rattle.moving.proofs.Ways.{SoFar, begin, got, gotten}
 
-some_is : {a b : ℕ} → Some a ≡ Some b → a ≡ b
-some_is e = cc
-
 -- what is known of the letter in hand
 pub legit : {i m : ℕ} {n o : Node} {w : World} (l : Letter) → Whole i m (spelt l ∷ []) n o w → Legit m (spelt l) n o (seen w)
 legit l h = h.both.ours.letters (spelt l) (inl (Memᴰ.head refl))
@@ -47,7 +45,7 @@ pub reask_whole : {i m : ℕ} {x : List (List ℕ)} {n o : Node} {w : World} (t 
 reask_whole t h = alone h (reask t h.both)
 
 pub asked_tidy : (n : Node) (t : ℕ) → n.awake ≡ true → Windowed n.state → t % 2 ≡ 1 - n.me → 1 ≤ t → t ≤ n.top → Tidy (asked_for t n)
-asked_tidy n t aw w a b c = record { awake = aw; windowed = w; asked = λ s e. subst (λ s. (s % 2 ≡ 1 - n.me) × (1 ≤ s) × (s ≤ n.top)) (some_is e) (a, b, c) }
+asked_tidy n t aw w a b c = record { awake = aw; windowed = w; asked = λ s e. subst (λ s. (s % 2 ≡ 1 - n.me) × (1 ≤ s) × (s ≤ n.top)) (same_Some _ _ e) (a, b, c) }
 
 -- PROBE
 -- a host that begins no attempt of the other has the guest
@@ -164,10 +162,6 @@ refuse_commit_whole {i = i} {m = m} {o = o} {w = w} n l z t e a mi k aw h =
 
 pub refuse_away_whole : {i m : ℕ} {o : Node} {w : World} (n : Node) (l : Letter) (z : Commitment) → z.attempt ≡ l.attempt → z.mine ≡ false → l.kind ≡ Refuse → Whole i m (spelt l ∷ []) (on_state (Committed z) n) o w → Whole i m (spelt l ∷ []) (on_state Away n) o w
 refuse_away_whole n l z a mi k h = alone h (let_go (spelt l) z (inl (Memᴰ.head refl)) refl (sym a) (inr (ap number k, mi)) h.both)
-
-abbrev refusal : ℕ → Commitment → Bool → Bool → Node → Node
-refusal t x b m n =
-    record { me = n.me; awake = n.awake; took = cond (b && m) t n.took; top = n.top; committed = n.committed; asked = n.asked; state = cond b (cond m (Running (record { wanted = true })) Away) (Committed x) }
 
 -- in Paused
 pub refuse_pause_whole : {i m : ℕ} {o : Node} {w : World} (n : Node) (l : Letter) (z : Pause) → z.right.attempt ≡ z.transfer.attempt → z.transfer.attempt ≡ l.attempt → n.awake ≡ true → Whole i m (spelt l ∷ []) (on_state (Paused z) n) o w → MayResume w × Whole i m (spelt l ∷ []) (runs_again l.attempt true n) o (resumed z.right.attempt w)

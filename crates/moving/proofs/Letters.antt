@@ -1,6 +1,7 @@
 -- Letters, and what little is left.
 -- Assumes nothing.
 use Rattle.std.proofs.Common.{◌≡◌, ℕ, ◌+◌, ◌-◌, ◌%◌, ◌<◌, ◌≤◌, Bool, true, false, not, ◌⊎◌, List, Some, sym, refl, ap, ◌∙◌, subst, inl, inr, arith, length}
+use Rattle.std.proofs.lemmas.Option.{same_Some}
 use Rattle.moving.specs.declared.Node.{Node}
 use Rattle.moving.specs.declared.state.Transfer.{Transfer}
 use Rattle.moving.specs.declared.state.Receiving.{Receiving as Reception}
@@ -12,7 +13,7 @@ use Rattle.moving.specs.Hosts.{Host, host_of}
 use Rattle.moving.specs.Model.{moving, on_state}
 use Rattle.moving.specs.Invariant.{View, flip, kind_of, attempt_of, place_of, page_of, words_of, slot, runner, keeper, NotReceiving, Runs, Carries, Bears, Legit, In, Side, Both}
 use Rattle.moving.proofs.Views.{both_swap, both_back}
-use Rattle.moving.proofs.Moves.{no, clash, none_some, some_same, receiving_same, mover, on_mine, on_theirs, on_guest}
+use Rattle.moving.proofs.Moves.{no, clash, none_some, receiving_same, mover, on_mine, on_theirs, on_guest, committed_same, running_same}
 
 -- m may grow
 more_legit : {m k : ℕ} (l : List ℕ) (n o : Node) (u : View) → m ≤ k → Legit m l n o u → Legit k l n o u
@@ -46,7 +47,7 @@ kinds i j a ne b = absurd (ne (sym a ∙ b))
 -- a Page: place base + k of the window, with the words of its page unless that was touched since
 pub page_legit : {m : ℕ} {x y : List (List ℕ)} {n o : Node} {u : View} (l : List ℕ) (c : Transfer) (k : ℕ) → moving n.state ≡ Some c → kind_of l ≡ 2 → attempt_of l ≡ c.attempt → k < length c.window.pages → place_of l ≡ c.window.base + k → page_of l ≡ slot c k → (u.mine.touched (page_of l) ≡ false → words_of l ≡ u.mine.page (page_of l)) → Both m x y n o u → Legit m l o n (flip u)
 page_legit {m = m} {n = n} {o = o} {u = u} l c k e kd at lt pl pg ws h =
-    record { probe = kinds 2 1 kd (λ z. omega arith); page = λ _. record { own = ap (λ z. z % 2) at ∙ ca.own; some = omega (arith, ca.done); begun = omega (arith, ca.attempt) }; commit = kinds 2 3 kd (λ z. omega arith); ack = kinds 2 4 kd (λ z. omega arith); refuse = kinds 2 5 kd (λ z. omega arith); taken = kinds 2 6 kd (λ z. omega arith); place = λ _. omega (arith, ca.most); given = λ _ r f a b d. absurd (omega (arith, ca.done, ca.attempt)); bears = λ _ d f a. subst (λ d. Bears l d o (flip u)) (some_same (sym e ∙ f)) (record { high = omega arith; slot = λ _. ap (slot c) (idx (place_of l) pl) ∙ sym pg; soon = λ _ _ t. ws t; now = λ _ _ _ _ _ t. ws t }); acked = kinds 2 4 kd (λ z. omega arith) }
+    record { probe = kinds 2 1 kd (λ z. omega arith); page = λ _. record { own = ap (λ z. z % 2) at ∙ ca.own; some = omega (arith, ca.done); begun = omega (arith, ca.attempt) }; commit = kinds 2 3 kd (λ z. omega arith); ack = kinds 2 4 kd (λ z. omega arith); refuse = kinds 2 5 kd (λ z. omega arith); taken = kinds 2 6 kd (λ z. omega arith); place = λ _. omega (arith, ca.most); given = λ _ r f a b d. absurd (omega (arith, ca.done, ca.attempt)); bears = λ _ d f a. subst (λ d. Bears l d o (flip u)) (same_Some _ _ (sym e ∙ f)) (record { high = omega arith; slot = λ _. ap (slot c) (idx (place_of l) pl) ∙ sym pg; soon = λ _ _ t. ws t; now = λ _ _ _ _ _ t. ws t }); acked = kinds 2 4 kd (λ z. omega arith) }
   where
     ca : Carries m c o u
     ca = h.ours.copy.carries c e
@@ -111,9 +112,6 @@ hear b h = host_of h.page h.touched h.cell b h.row h.old
 pub untold : {m : ℕ} {x y : List (List ℕ)} {n o : Node} {u : View} → u.mine.told ≡ false → Both m x y n o u → Both m x y n o (on_mine (hear false u.mine) u)
 untold {m = m} {x = x} {y = y} {n = n} {o = o} {u = u} e h = subst (λ b. Both m x y n o (on_mine (hear b u.mine) u)) e h
 
-pub running_same : {a b : Run} → Running a ≡ Running b → a ≡ b
-running_same e = cc
-
 pub told_it : {m : ℕ} {x y : List (List ℕ)} {n o : Node} {u : View} (z : Run) → n.state ≡ Running z → u.mine.told ≡ true → Both m x y n o u → Both m x y (on_state (Running (record { wanted = true })) n) o (on_mine (hear false u.mine) u)
 told_it {m = m} {x = x} {n = n} {o = o} {u = u} z e t h =
     let g = h.ours.guest.running z e in
@@ -134,9 +132,6 @@ wakes a b c s n = record { me = n.me; awake = true; took = a; top = b; committed
 pub woke : {m : ℕ} {x y : List (List ℕ)} {n o : Node} {u : View} (a b c : ℕ) → a ≡ u.mine.cell 0 → b ≡ u.mine.cell 1 → c ≡ u.mine.cell 2 → Both m x y n o u → Both m x y (wakes a b c n.state n) o u
 woke a b c p q r h =
     record { ours = record { me = h.ours.me; fit = h.ours.fit; guest = h.ours.guest; cells = record { copies = λ _. (p, q, r); asleep = λ a. no refl a; took = h.ours.cells.took; done = h.ours.cells.done; parity = h.ours.cells.parity; most = h.ours.cells.most; committed = h.ours.cells.committed; receiving = h.ours.cells.receiving }; order = h.ours.order; commits = h.ours.commits; copy = h.ours.copy; letters = h.ours.letters }; yours = record { me = h.yours.me; fit = h.yours.fit; guest = h.yours.guest; cells = h.yours.cells; order = h.yours.order; commits = h.yours.commits; copy = h.yours.copy; letters = h.yours.letters } }
-
-committed_same : {a b : Commitment} → Committed a ≡ Committed b → a ≡ b
-committed_same e = cc
 
 -- it has committed its last attempt, and says it again
 pub woke_committed : {m : ℕ} {x y : List (List ℕ)} {n o : Node} {u : View} (z : Commitment) → n.state ≡ Away → n.awake ≡ true → z.mine ≡ false → z.attempt ≡ u.mine.cell 1 → u.mine.cell 2 ≡ u.mine.cell 1 → 0 < z.attempt → Both m x y n o u → Both m x y (on_state (Committed z) n) o u

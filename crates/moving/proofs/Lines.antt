@@ -1,6 +1,7 @@
 -- What a quiet turn makes of the line: all that waits is heard, and what waits after it is what the host asks, or its answer.
 -- Assumes nothing.
 use Rattle.std.proofs.Common.{◌≡◌, ℕ, suc, ◌+◌, ◌-◌, ◌%◌, ◌<◌, ◌≤◌, Bool, true, false, cond, not, ◌||◌, ◌⊎◌, List, [], ◌∷◌, ◌++◌, length, get_or, take, drop, Some, None, Option, sym, refl, ap, ◌∙◌, subst, inl, inr, arith, le-ltb, lt-ltb, eq-eqb, ne_eqb, eqb-true, le-leb}
+use Rattle.std.proofs.lemmas.Option.{same_Some}
 use Rattle.std.proofs.lemmas.List.{length-drop}
 use borrow.Author.Tests.{lt-leb}
 use Rattle.std.proofs.lemmas.Bool.{cases_Bool, cases_eq, cases_lt, or_parts}
@@ -23,17 +24,9 @@ use Rattle.moving.specs.Invariant.{View, Both, Whole, Carries, NotReceiving, end
 use Rattle.moving.specs.Over.{TurnedOver, ActedOver, RunOver, RunOver.stays, RunOver.begins as starts, CopyOver.on, CopyOver.again, CopyOver.stops, PauseOver.settles, PauseOver.resumes as goes_back, PauseOver.goes}
 use Rattle.moving.specs.Calm.{Calmly, Still, Added, row_here, row_there, heads, hears, page_heads, asked_of, answer_head, reply_to, reply_of, SentIf}
 use Rattle.moving.specs.Time.{tries, asks, HasAsked, With, With.receives as in_step, With.soon, Acknowledged, Refused}
-use Rattle.moving.proofs.Moves.{no, clash}
+use Rattle.moving.proofs.Moves.{no, clash, none_some}
 use Rattle.moving.proofs.Steps.{seen}
 use Rattle.moving.proofs.Acts.{gone_attempt}
-
--- nothing isn't something
-nothing : {A B : Type 0} {x : B} → None ≡ Some x → A
-nothing e = let z : ◌≡◌ {A = ℕ} 0 1 = cc in absurd (omega arith)
-
--- something is one thing
-same : {B : Type 0} {x y : B} → Some x ≡ Some y → x ≡ y
-same e = cc
 
 -- FOLDING LETTERS
 -- a node that receives the attempt t, up to the place next
@@ -156,12 +149,7 @@ hears_dead pages n t v (x ∷ r) g a h f e =
     first pages n x r Probe t 0 0 e0 (omega arith) ∙ ap (λ (y : Node). hears pages y r) (probe_past pages n t (take 64 (drop 8 x)) h)
     ∙ hears_past pages (asked_for t n) t v.base v.pages r g a f e1
 
--- ONE LETTER ALONE, OR NONE
--- a row of none leaves the node
-pub hears_none : (pages : ℕ) (n : Node) (r : List (List ℕ)) → r ≡ [] → hears pages n r ≡ n
-unfolding hears
-hears_none pages n r e = ap (hears pages n) e
-
+-- ONE LETTER ALONE
 -- one letter, whose head is known
 alone : (pages : ℕ) (n : Node) (k : Kind) (t s : ℕ) (r : List (List ℕ)) → heads r ≡ head k t s 0 ∷ [] → (us : List ℕ) × (hears pages n r ≡ heeded pages (said k t s 0 us) n)
 unfolding heads hears
@@ -268,12 +256,12 @@ data Told (n o h : Node) : Type 0 where
 
 -- the attempt of a transfer is what its host tries
 moving_tries : (s : State) (x : Transfer) → moving s ≡ Some x → tries s ≡ Some x.attempt
-moving_tries Away x e = nothing e
-moving_tries (Receiving y) x e = nothing e
-moving_tries (Running y) x e = nothing e
-moving_tries (Copying y) x e = ap (λ (c : Transfer). Some c.attempt) (same e)
-moving_tries (Paused y) x e = ap (λ (c : Transfer). Some c.attempt) (same e)
-moving_tries (Committed y) x e = nothing e
+moving_tries Away x e = none_some e
+moving_tries (Receiving y) x e = none_some e
+moving_tries (Running y) x e = none_some e
+moving_tries (Copying y) x e = ap (λ (c : Transfer). Some c.attempt) (same_Some _ _ e)
+moving_tries (Paused y) x e = ap (λ (c : Transfer). Some c.attempt) (same_Some _ _ e)
+moving_tries (Committed y) x e = none_some e
 
 -- n asks with a probe and its window
 told_moving : {m : ℕ} {n o : Node} {u : View} (x : Transfer) (r : List (List ℕ)) → Both m [] [] o n u → u.here ≡ false → o.awake ≡ true → moving n.state ≡ Some x → heads r ≡ asked_of x.attempt x.window → Told n o (hears u.pages o r)
@@ -305,7 +293,7 @@ told_moving {m = m} {n = n} {o = o} {u = u} x r h e aw mv q = go o.state refl
       where
         never : With n o → ⊥
         never (in_step t z a b k) = clash (sym f ∙ b) tt
-        never (soon y a k) = let i : y.attempt ≡ x.attempt = ap (λ (c : Transfer). c.attempt) (same (sym a ∙ mv)) in omega arith
+        never (soon y a k) = let i : y.attempt ≡ x.attempt = ap (λ (c : Transfer). c.attempt) (same_Some _ _ (sym a ∙ mv)) in omega arith
 
     go : (z : State) → o.state ≡ z → Told n o (hears u.pages o r)
     go Away f = elim (cases_lt o.top x.attempt) [ inl l ↦ new l (ap begins f) | inr l ↦ dead l f ]
@@ -373,7 +361,7 @@ told_committed {m = m} {n = n} {o = o} {u = u} x r h e aw mv q = go o.state refl
       where
         never : With n o → ⊥
         never (in_step t z a b k) = clash (sym f ∙ b) tt
-        never (soon y a k) = nothing (sym (ap moving mv) ∙ a)
+        never (soon y a k) = none_some (sym (ap moving mv) ∙ a)
     go (Receiving z) f =
         let i : z.attempt ≡ x.attempt = (h.ours.cells.receiving z f).0 ∙ is in
         let d : hears u.pages o r ≡ asked_for x.attempt (runs_again x.attempt false o) = heard ∙ rw (f, eq-eqb z.attempt x.attempt i) in
@@ -401,12 +389,12 @@ told : {m : ℕ} {n o : Node} {u : View} (r : List (List ℕ)) → Both m [] [] 
 told {n = n} {o = o} {u = u} r h e aw = go n.state refl
   where
     go : (s : State) → n.state ≡ s → HasAsked s r → Told n o (hears u.pages o r)
-    go Away f b = nothing b
-    go (Receiving x) f b = nothing b
-    go (Running x) f b = nothing b
-    go (Copying x) f b = told_moving x r h e aw (ap moving f) (sym (same b))
-    go (Paused x) f b = told_moving x.transfer r h e aw (ap moving f) (sym (same b))
-    go (Committed x) f b = told_committed x r h e aw f (sym (same b))
+    go Away f b = none_some b
+    go (Receiving x) f b = none_some b
+    go (Running x) f b = none_some b
+    go (Copying x) f b = told_moving x r h e aw (ap moving f) (sym (same_Some _ _ b))
+    go (Paused x) f b = told_moving x.transfer r h e aw (ap moving f) (sym (same_Some _ _ b))
+    go (Committed x) f b = told_committed x r h e aw f (sym (same_Some _ _ b))
 
 -- what a host does by itself, if its state is known
 acts_as : {w v : World} {n m : Node} (u : TurnedOver w n m v) (s : State) → u.heard.state ≡ s → ActedOver w.pages u.most (me u.quiet).told s (on_state Away u.heard) u.quiet u.acted u.done
@@ -510,9 +498,9 @@ trying {i = i} {m = m} {w = w} {v = v} {n = n} {o = o} {l = l} u h few g e q wi 
 -- IT ASKS
 -- if nothing waits for the other when it acts
 acts_ask : (pages most : ℕ) (told : Bool) (s : State) (n : Node) (w : World) (m : Node) (v : World) (t : ℕ) → v.rough ≡ false → row_there w ≡ [] → tries m.state ≡ Some t → ActedOver pages most told s n w m v → HasAsked m.state (row_there v)
-acts_ask pages most told Away n w m v t q e i a = nothing (sym (ap (λ (y : Node). tries y.state) a.0) ∙ i)
-acts_ask pages most told (Receiving z) n w m v t q e i a = nothing (sym (ap (λ (y : Node). tries y.state) a.0) ∙ i)
-acts_ask pages most told (Running z) n w m v t q e i (stays f a k) = nothing (sym (ap (λ (y : Node). tries y.state) a) ∙ i)
+acts_ask pages most told Away n w m v t q e i a = none_some (sym (ap (λ (y : Node). tries y.state) a.0) ∙ i)
+acts_ask pages most told (Receiving z) n w m v t q e i a = none_some (sym (ap (λ (y : Node). tries y.state) a.0) ∙ i)
+acts_ask pages most told (Running z) n w m v t q e i (stays f a k) = none_some (sym (ap (λ (y : Node). tries y.state) a) ∙ i)
 acts_ask pages most told (Running z) n w m v t q e i (starts c f g k) = ap (λ (y : Node). asks y.state) k.node ∙ ap Some (sym (k.went.asked e q))
 acts_ask pages most told (Copying z) n w m v t q e i (on f k) = ap (λ (y : Node). asks y.state) k.node ∙ ap Some (sym (k.went.asked e q))
 acts_ask pages most told (Copying z) n w m v t q e i (again f g k) = ap (λ (y : Node). asks y.state) k.node ∙ ap Some (sym (k.went.asked e q))
@@ -528,9 +516,9 @@ no_reply n t e = go n.asked n.state e refl
   where
     go : (a : Option ℕ) (s : State) → tries s ≡ Some t → n.state ≡ s → reply_to a n ≡ None
     go None s i f = refl
-    go (Some b) Away i f = nothing i
-    go (Some b) (Receiving x) i f = nothing i
-    go (Some b) (Running x) i f = nothing i
+    go (Some b) Away i f = none_some i
+    go (Some b) (Receiving x) i f = none_some i
+    go (Some b) (Running x) i f = none_some i
     go (Some b) (Copying x) i f = ap (λ (z : State). answer_head b (answer_in z b n.took)) f
     go (Some b) (Paused x) i f = ap (λ (z : State). answer_head b (answer_in z b n.took)) f
     go (Some b) (Committed x) i f = ap (λ (z : State). answer_head b (answer_in z b n.took)) f
@@ -556,16 +544,16 @@ single h (x ∷ y ∷ r) e = absurd (omega (arith, ap length e))
 
 -- its act leaves it in the same attempt
 acts_try : (pages most : ℕ) (told : Bool) (s : State) (n : Node) (w : World) (m : Node) (v : World) (x : Transfer) → moving s ≡ Some x → ActedOver pages most told s n w m v → tries m.state ≡ Some x.attempt
-acts_try pages most told Away n w m v x e a = nothing e
-acts_try pages most told (Receiving z) n w m v x e a = nothing e
-acts_try pages most told (Running z) n w m v x e a = nothing e
-acts_try pages most told (Copying z) n w m v x e (on f k) = ap (λ (y : Node). tries y.state) k.node ∙ ap Some (gone_attempt k.goes) ∙ ap (λ (c : Transfer). Some c.attempt) (same e)
-acts_try pages most told (Copying z) n w m v x e (again f g k) = ap (λ (y : Node). tries y.state) k.node ∙ ap Some (gone_attempt k.goes) ∙ ap (λ (c : Transfer). Some c.attempt) (same e)
-acts_try pages most told (Copying z) n w m v x e (stops f g k) = ap (λ (y : Node). tries y.state) k.node ∙ ap Some (gone_attempt k.goes) ∙ ap (λ (c : Transfer). Some c.attempt) (same e)
-acts_try pages most told (Paused z) n w m v x e (settles f a k) = ap (λ (y : Node). tries y.state) a ∙ ap (λ (c : Transfer). Some c.attempt) (same e)
-acts_try pages most told (Paused z) n w m v x e (goes_back f g k) = ap (λ (y : Node). tries y.state) k.node ∙ ap Some (gone_attempt k.goes) ∙ ap (λ (c : Transfer). Some c.attempt) (same e)
-acts_try pages most told (Paused z) n w m v x e (goes f g k r) = ap (λ (y : Node). tries y.state) k.node ∙ ap Some (gone_attempt k.goes) ∙ ap (λ (c : Transfer). Some c.attempt) (same e)
-acts_try pages most told (Committed z) n w m v x e a = nothing e
+acts_try pages most told Away n w m v x e a = none_some e
+acts_try pages most told (Receiving z) n w m v x e a = none_some e
+acts_try pages most told (Running z) n w m v x e a = none_some e
+acts_try pages most told (Copying z) n w m v x e (on f k) = ap (λ (y : Node). tries y.state) k.node ∙ ap Some (gone_attempt k.goes) ∙ ap (λ (c : Transfer). Some c.attempt) (same_Some _ _ e)
+acts_try pages most told (Copying z) n w m v x e (again f g k) = ap (λ (y : Node). tries y.state) k.node ∙ ap Some (gone_attempt k.goes) ∙ ap (λ (c : Transfer). Some c.attempt) (same_Some _ _ e)
+acts_try pages most told (Copying z) n w m v x e (stops f g k) = ap (λ (y : Node). tries y.state) k.node ∙ ap Some (gone_attempt k.goes) ∙ ap (λ (c : Transfer). Some c.attempt) (same_Some _ _ e)
+acts_try pages most told (Paused z) n w m v x e (settles f a k) = ap (λ (y : Node). tries y.state) a ∙ ap (λ (c : Transfer). Some c.attempt) (same_Some _ _ e)
+acts_try pages most told (Paused z) n w m v x e (goes_back f g k) = ap (λ (y : Node). tries y.state) k.node ∙ ap Some (gone_attempt k.goes) ∙ ap (λ (c : Transfer). Some c.attempt) (same_Some _ _ e)
+acts_try pages most told (Paused z) n w m v x e (goes f g k r) = ap (λ (y : Node). tries y.state) k.node ∙ ap Some (gone_attempt k.goes) ∙ ap (λ (c : Transfer). Some c.attempt) (same_Some _ _ e)
+acts_try pages most told (Committed z) n w m v x e a = none_some e
 
 -- the transfer x when the whole window was acknowledged
 abbrev pub cleared : Transfer → Transfer
@@ -573,12 +561,12 @@ cleared x = acked x.attempt (end x) x
 
 -- what an acknowledgement makes of each state
 acked_moving : (s : State) (x : Transfer) → moving s ≡ Some x → moving (acked_in x.attempt (end x) s) ≡ Some (cleared x)
-acked_moving Away x e = nothing e
-acked_moving (Receiving z) x e = nothing e
-acked_moving (Running z) x e = nothing e
-acked_moving (Copying z) x e = ap (λ (c : Transfer). Some (acked x.attempt (end x) c)) (same e)
-acked_moving (Paused z) x e = ap (λ (c : Transfer). Some (acked x.attempt (end x) c)) (same e)
-acked_moving (Committed z) x e = nothing e
+acked_moving Away x e = none_some e
+acked_moving (Receiving z) x e = none_some e
+acked_moving (Running z) x e = none_some e
+acked_moving (Copying z) x e = ap (λ (c : Transfer). Some (acked x.attempt (end x) c)) (same_Some _ _ e)
+acked_moving (Paused z) x e = ap (λ (c : Transfer). Some (acked x.attempt (end x) c)) (same_Some _ _ e)
+acked_moving (Committed z) x e = none_some e
 
 -- A quiet turn of n that begins with the answer that the whole window of its transfer x is put.
 -- asks: so many are left; with: the other is with it after the turn too.
@@ -600,9 +588,9 @@ clears {w = w} {v = v} {n = n} {o = o} {l = l} u h few q aw a =
       asks = let k = u.cost aw c.early in let j = one in omega arith;
       heard = heard;
       moves = moves;
-      empty = λ y e. ap (λ (d : Transfer). length d.window.pages) (same (sym e ∙ moves)) ∙ (acked_all x).empty;
-      copying = λ y e. state ∙ ap (acked_in x.attempt (end x)) e ∙ ap (λ (d : Transfer). Copying (acked x.attempt (end x) d)) (same (sym (ap moving e) ∙ a.moves));
-      paused = λ y e. state ∙ ap (acked_in x.attempt (end x)) e ∙ ap (λ (d : Transfer). Paused (record { transfer = acked x.attempt (end x) d; right = y.right; turns = y.turns })) (same (sym (ap moving e) ∙ a.moves));
+      empty = λ y e. ap (λ (d : Transfer). length d.window.pages) (same_Some _ _ (sym e ∙ moves)) ∙ (acked_all x).empty;
+      copying = λ y e. state ∙ ap (acked_in x.attempt (end x)) e ∙ ap (λ (d : Transfer). Copying (acked x.attempt (end x) d)) (same_Some _ _ (sym (ap moving e) ∙ a.moves));
+      paused = λ y e. state ∙ ap (acked_in x.attempt (end x)) e ∙ ap (λ (d : Transfer). Paused (record { transfer = acked x.attempt (end x) d; right = y.right; turns = y.turns })) (same_Some _ _ (sym (ap moving e) ∙ a.moves));
       with = in_step x.attempt (record { attempt = x.attempt; next = end x }) tried a.there refl;
     }
   where
@@ -639,12 +627,12 @@ refused_runs {n = n} {w = w} t h e lo hu = go n.state refl
     here = eq-eqb w.last w.turn e
 
     go : (s : State) → n.state ≡ s → tries s ≡ Some t → refused_in t s ≡ Running (record { wanted = true })
-    go Away f k = nothing k
-    go (Receiving x) f k = nothing k
-    go (Running x) f k = nothing k
-    go (Copying x) f k = rw (eq-eqb x.attempt t (same k))
-    go (Paused x) f k = rw (eq-eqb x.transfer.attempt t (same k))
-    go (Committed x) f k = rw (eq-eqb x.attempt t (same k), mine)
+    go Away f k = none_some k
+    go (Receiving x) f k = none_some k
+    go (Running x) f k = none_some k
+    go (Copying x) f k = rw (eq-eqb x.attempt t (same_Some _ _ k))
+    go (Paused x) f k = rw (eq-eqb x.transfer.attempt t (same_Some _ _ k))
+    go (Committed x) f k = rw (eq-eqb x.attempt t (same_Some _ _ k), mine)
       where
         mine : x.mine ≡ true
         mine =

@@ -1,6 +1,9 @@
 -- What is done keeps both sides right, at what a host sees.
 -- Assumes nothing.
 use Rattle.std.proofs.Common.{◌≡◌, ℕ, ◌+◌, ◌-◌, ◌%◌, ◌<◌, ◌≤◌, Bool, true, false, cond, not, ◌&&◌, ◌||◌, T, eqb, ◌⊎◌, List, [], Some, None, sym, refl, ap, ◌∙◌, subst, ap₂, inl, inr, arith, eq-eqb, eqb-true, length}
+use Rattle.moving.specs.Acted.{commits}
+use Rattle.std.proofs.lemmas.Bool.{and_parts, or_parts}
+use Rattle.std.proofs.lemmas.Option.{same_Some, none-some}
 use borrow.Author.Tests.{both_ways, not-true, eqb-false}
 use Rattle.moving.specs.declared.Node.{Node}
 use Rattle.moving.specs.declared.state.Transfer.{Transfer}
@@ -31,11 +34,8 @@ pub clash : {A : Type 0} {s t : State} → s ≡ t → T (not (eqb (tag s) (tag 
 clash {s = s} {t = t} e d =
     absurd (subst (λ b. T (not b)) (eq-eqb (tag s) (tag s) refl) (subst (λ z. T (not (eqb (tag s) (tag z)))) (sym e) d))
 
-pub none_some : {A : Type 0} {c : Transfer} → None ≡ Some c → A
-none_some e = let z : ◌≡◌ {A = ℕ} 0 1 = cc in absurd (omega arith)
-
-pub some_same : {b c : Transfer} → Some b ≡ Some c → b ≡ c
-some_same e = cc
+pub none_some : {A B : Type 0} {x : B} → None ≡ Some x → A
+none_some {x = x} e = absurd (none-some x e)
 
 pub receiving_same : {r s : Reception} → Receiving r ≡ Receiving s → r ≡ s
 receiving_same e = cc
@@ -104,22 +104,10 @@ abbrev pub fallen : (ℕ → List ℕ) → (ℕ → Bool) → View → View
 fallen page touched u =
     on_mine (dropped page touched u.mine) (on_guest (u.runs && not u.here) u.here (u.lost || (u.runs && u.here)) u.truth (u.hurt || u.here) u.wish u)
 
-and_left : (a b : Bool) → (a && b) ≡ true → a ≡ true
-and_left true b e = refl
-and_left false b e = no e refl
-
 and_un : (a b : Bool) → (a && b) ≡ false → b ≡ true → a ≡ false
 and_un true true e f = no refl e
 and_un true false e f = no f refl
 and_un false b e f = refl
-
-or_left : (a b : Bool) → (a || b) ≡ false → a ≡ false
-or_left true b e = no refl e
-or_left false b e = refl
-
-or_right : (a b : Bool) → (a || b) ≡ false → b ≡ false
-or_right true b e = no refl e
-or_right false b e = e
 
 and_not : (a b : Bool) → (a && not b) ≡ true → b ≡ false
 and_not true true e = no e refl
@@ -137,7 +125,7 @@ with_hand h (inr i) = inr i
 
 pub fell : {m : ℕ} {x y : List (List ℕ)} {n o : Node} {u : View} (page : ℕ → List ℕ) (touched : ℕ → Bool) → Both m x y n o u → Both m [] y (fresh u.me false) o (fallen page touched u)
 fell {m = m} {x = x} {n = n} {o = o} {u = u} page touched h =
-    record { ours = record { me = refl; fit = record { sides = h.ours.fit.sides; some = h.ours.fit.some; few = h.ours.fit.few; lost = still_lost u.runs u.here u.lost h.ours.fit.lost }; guest = record { told = λ e. no e refl; runner = λ e f. no f (and_not u.runs u.here e); keeper = λ _ _ e f. no f (or_right u.hurt u.here e); running = λ x f. clash f tt; copying = λ x f. clash f tt; paused = λ x f. clash f tt; committed = λ x f. clash f tt; receiving = λ x f. clash f tt }; cells = record { copies = λ e. no e refl; asleep = λ _. refl; took = h.ours.cells.took; done = h.ours.cells.done; parity = h.ours.cells.parity; most = h.ours.cells.most; committed = λ x f. clash f tt; receiving = λ x f. clash f tt }; order = h.ours.order; commits = λ r f a b. let g : Given u = h.ours.commits r f a b in record { runs = ap (λ z. z && not u.here) g.runs; lost = ap₂ (λ l z. l || (z && u.here)) g.lost g.runs; here = g.here; wish = g.wish; same = g.same }; copy = record { carries = λ c f. none_some f; below = λ x f. clash f tt }; letters = λ l i. mine l (h.ours.letters l (with_hand u.mine i)) }; yours = record { me = h.yours.me; fit = record { sides = h.yours.fit.sides; some = h.yours.fit.some; few = h.yours.fit.few; lost = still_lost u.runs u.here u.lost h.ours.fit.lost }; guest = record { told = λ e. let z = a.told e in (ap₂ (λ r b. r && b) z.0 z.1, z.1, z.2); runner = λ e f. a.runner (and_left u.runs _ e) f; keeper = λ r l b f. a.keeper (and_un u.runs _ r f) (or_left u.lost _ l) (or_left u.hurt _ b) f; running = λ x f. let z = a.running x f in record { runs = ap₂ (λ r b. r && b) z.runs z.here; here = z.here; wanted = z.wanted; idle = z.idle }; copying = λ c f. let z = a.copying c f in record { runs = ap₂ (λ r b. r && b) z.runs z.here; here = z.here; wish = z.wish; told = z.told }; paused = λ x f. stands (a.paused x f); committed = λ x f k l. stands (a.committed x f k l); receiving = a.receiving }; cells = h.yours.cells; order = h.yours.order; commits = λ r f. clash f tt; copy = record { carries = λ c f. let k = h.yours.copy.carries c f in record { attempt = k.attempt; own = k.own; done = k.done; took = k.took; most = k.most; ways = k.ways; base = k.base; every = k.every; under = λ s g. clash g tt }; below = h.yours.copy.below }; letters = λ l i. theirs l (h.yours.letters l i) } }
+    record { ours = record { me = refl; fit = record { sides = h.ours.fit.sides; some = h.ours.fit.some; few = h.ours.fit.few; lost = still_lost u.runs u.here u.lost h.ours.fit.lost }; guest = record { told = λ e. no e refl; runner = λ e f. no f (and_not u.runs u.here e); keeper = λ _ _ e f. no f (or_parts u.hurt u.here e).1; running = λ x f. clash f tt; copying = λ x f. clash f tt; paused = λ x f. clash f tt; committed = λ x f. clash f tt; receiving = λ x f. clash f tt }; cells = record { copies = λ e. no e refl; asleep = λ _. refl; took = h.ours.cells.took; done = h.ours.cells.done; parity = h.ours.cells.parity; most = h.ours.cells.most; committed = λ x f. clash f tt; receiving = λ x f. clash f tt }; order = h.ours.order; commits = λ r f a b. let g : Given u = h.ours.commits r f a b in record { runs = ap (λ z. z && not u.here) g.runs; lost = ap₂ (λ l z. l || (z && u.here)) g.lost g.runs; here = g.here; wish = g.wish; same = g.same }; copy = record { carries = λ c f. none_some f; below = λ x f. clash f tt }; letters = λ l i. mine l (h.ours.letters l (with_hand u.mine i)) }; yours = record { me = h.yours.me; fit = record { sides = h.yours.fit.sides; some = h.yours.fit.some; few = h.yours.fit.few; lost = still_lost u.runs u.here u.lost h.ours.fit.lost }; guest = record { told = λ e. let z = a.told e in (ap₂ (λ r b. r && b) z.0 z.1, z.1, z.2); runner = λ e f. a.runner (and_parts u.runs _ e).0 f; keeper = λ r l b f. a.keeper (and_un u.runs _ r f) (or_parts u.lost _ l).0 (or_parts u.hurt _ b).0 f; running = λ x f. let z = a.running x f in record { runs = ap₂ (λ r b. r && b) z.runs z.here; here = z.here; wanted = z.wanted; idle = z.idle }; copying = λ c f. let z = a.copying c f in record { runs = ap₂ (λ r b. r && b) z.runs z.here; here = z.here; wish = z.wish; told = z.told }; paused = λ x f. stands (a.paused x f); committed = λ x f k l. stands (a.committed x f k l); receiving = a.receiving }; cells = h.yours.cells; order = h.yours.order; commits = λ r f. clash f tt; copy = record { carries = λ c f. let k = h.yours.copy.carries c f in record { attempt = k.attempt; own = k.own; done = k.done; took = k.took; most = k.most; ways = k.ways; base = k.base; every = k.every; under = λ s g. clash g tt }; below = h.yours.copy.below }; letters = λ l i. theirs l (h.yours.letters l i) } }
   where
     a : Guest o (flip u)
     a = h.yours.guest
@@ -206,13 +194,10 @@ page_put {m = m} {x = x} {n = n} {o = o} {u = u} l r i kd e at pl h =
         record { attempt = k.attempt; own = k.own; done = k.done; took = k.took; most = k.most; ways = k.ways; base = k.base; every = k.every; under = λ s g a. under c f s (receiving_same g) (ap (λ z. z.attempt) (receiving_same g) ∙ a) }
 
 -- COMMIT
-abbrev pub settled : ℕ → Node → Node
-settled t n = record { me = n.me; awake = n.awake; took = n.took; top = n.top; committed = t; asked = n.asked; state = Committed (record { attempt = t; mine = true; turns = 1 }) }
-
-committed_same : {a b : Commitment} → Committed a ≡ Committed b → a ≡ b
+pub committed_same : {a b : Commitment} → Committed a ≡ Committed b → a ≡ b
 committed_same e = cc
 
-pub commit_it : {m : ℕ} {x y : List (List ℕ)} {n o : Node} {u : View} (z : Pause) → n.state ≡ Paused z → length z.transfer.window.pages ≡ 0 → z.transfer.cursor ≡ u.pages → Both m x y n o u → Both m x y (settled z.transfer.attempt n) o (on_mine (cell_at 2 z.transfer.attempt u.mine) u)
+pub commit_it : {m : ℕ} {x y : List (List ℕ)} {n o : Node} {u : View} (z : Pause) → n.state ≡ Paused z → length z.transfer.window.pages ≡ 0 → z.transfer.cursor ≡ u.pages → Both m x y n o u → Both m x y (commits z.transfer.attempt n) o (on_mine (cell_at 2 z.transfer.attempt u.mine) u)
 commit_it {m = m} {x = x} {n = n} {o = o} {u = u} z e len cur h =
     record { ours = record { me = h.ours.me; fit = h.ours.fit; guest = record { told = h.ours.guest.told; runner = λ a b. no a st.runs; keeper = λ _ _ _ _. refl; running = λ x f. clash f tt; copying = λ x f. clash f tt; paused = λ x f. clash f tt; committed = λ y f a b. st; receiving = λ x f. clash f tt }; cells = record { copies = λ a. let w = h.ours.cells.copies a in (w.0, w.1, refl); asleep = λ a. clash (sym (h.ours.cells.asleep a) ∙ e) tt; took = h.ours.cells.took; done = let w = k.attempt in omega arith; parity = λ _. k.own; most = h.ours.cells.most; committed = λ y f. let w = k.done in subst (λ y. (y.attempt ≡ u.mine.cell 1) × (c.attempt ≡ u.mine.cell 1) × (0 < y.attempt)) (committed_same f) (k.attempt, k.attempt, omega arith); receiving = λ x f. clash f tt }; order = record { later = h.ours.order.later; had = h.ours.order.had; begun = begun; untaken = λ _ _ _. let w = k.took in let v = k.attempt in omega arith }; commits = λ r f a b. record { runs = st.runs; lost = st.lost; here = st.here; wish = st.wish; same = λ p l. let w = low p l in (k.under r f (a ∙ sym k.attempt)).same p l w.0 w.1 (λ q. none q) ∙ st.same p l }; copy = record { carries = λ c f. none_some f; below = λ x f. clash f tt }; letters = λ l i. mine l (h.ours.letters l i) }; yours = record { me = h.yours.me; fit = h.yours.fit; guest = h.yours.guest; cells = h.yours.cells; order = h.yours.order; commits = λ r f. clash f tt; copy = record { carries = λ d f. let w = h.yours.copy.carries d f in record { attempt = w.attempt; own = w.own; done = w.done; took = w.took; most = w.most; ways = w.ways; base = w.base; every = w.every; under = λ s g. clash g tt }; below = h.yours.copy.below }; letters = λ l i. theirs l (h.yours.letters l i) } }
   where
@@ -237,11 +222,11 @@ commit_it {m = m} {x = x} {n = n} {o = o} {u = u} z e len cur h =
         let ne : u.theirs.cell 1 < z.transfer.attempt → ⊥ = λ w. none (k.every w 0 (omega arith) (low 0 (omega arith)).0) in
         omega arith
 
-    mine : (l : List ℕ) → Legit m l n o u → Legit m l (settled z.transfer.attempt n) o (on_mine (cell_at 2 z.transfer.attempt u.mine) u)
+    mine : (l : List ℕ) → Legit m l n o u → Legit m l (commits z.transfer.attempt n) o (on_mine (cell_at 2 z.transfer.attempt u.mine) u)
     mine l g =
         record { probe = g.probe; page = g.page; commit = λ i. record { own = (g.commit i).own; some = (g.commit i).some; done = (g.commit i).done; past = λ _ r f. clash f tt }; ack = g.ack; refuse = g.refuse; taken = g.taken; place = g.place; given = λ i r f. clash f tt; bears = λ i c f d. let b = g.bears i c f d in record { high = b.high; slot = b.slot; soon = b.soon; now = λ s j. clash j tt }; acked = λ i c f. none_some f }
 
-    theirs : (l : List ℕ) → Legit m l o n (flip u) → Legit m l o (settled z.transfer.attempt n) (flip (on_mine (cell_at 2 z.transfer.attempt u.mine) u))
+    theirs : (l : List ℕ) → Legit m l o n (flip u) → Legit m l o (commits z.transfer.attempt n) (flip (on_mine (cell_at 2 z.transfer.attempt u.mine) u))
     theirs l g =
         record { probe = g.probe; page = g.page; commit = λ i. record { own = (g.commit i).own; some = (g.commit i).some; done = let w = (g.commit i).done in let v = k.done in omega arith; past = (g.commit i).past }; ack = g.ack; refuse = λ i. record { own = (g.refuse i).own; begun = (g.refuse i).begun; dead = λ _ r f. clash f tt; untaken = (g.refuse i).untaken }; taken = g.taken; place = g.place; given = λ i r f a b d. let w = (g.bears i z.transfer (ap moving e) (b ∙ sym k.attempt)).high in let v = (k.under r f (a ∙ b ∙ sym k.attempt)).low in omega arith; bears = λ i c f. none_some f; acked = λ i c f d s j. clash j tt }
 
@@ -253,7 +238,7 @@ went x u = on_mine (cell_at 0 x u.mine) (on_guest true true u.lost u.truth false
 abbrev pub MayGo : View → Type 0
 MayGo u = (u.runs ≡ false) × (u.lost ≡ false) × ((p : ℕ) → p < u.pages → u.mine.page p ≡ u.truth p) × ((u.here ≡ true) ⊎ (u.wish ≡ true))
 
-running_same : {a b : Run} → Running a ≡ Running b → a ≡ b
+pub running_same : {a b : Run} → Running a ≡ Running b → a ≡ b
 running_same e = cc
 
 -- a Commit that's heard while its attempt is received: it's the other's last, and committed
@@ -372,9 +357,6 @@ refused_copying {m = m} {n = n} {o = o} {u = u} c e aw h =
         record { probe = k.probe; page = k.page; commit = k.commit; ack = k.ack; refuse = λ i. record { own = (k.refuse i).own; begun = (k.refuse i).begun; dead = λ _ r f. clash f tt; untaken = (k.refuse i).untaken }; taken = k.taken; place = k.place; given = k.given; bears = λ i c f. none_some f; acked = λ i c f d s j. clash j tt }
 
 -- A NEW ATTEMPT
-copying_same : {a b : Transfer} → Copying a ≡ Copying b → a ≡ b
-copying_same e = cc
-
 pub attempt_it : {m : ℕ} {x y : List (List ℕ)} {n o : Node} {u : View} (z : Run) (d : Transfer) → n.state ≡ Running z → z.wanted ≡ true → n.awake ≡ true → u.mine.cell 1 < d.attempt → d.attempt % 2 ≡ u.me → d.attempt ≤ m → length d.window.pages ≡ 0 → d.window.base ≡ 0 → ((p : ℕ) → p < u.pages → unsent d p ≡ true) → Both m x y n o u → Both m x y (on_top d.attempt (Copying d) n) o (on_mine (cell_at 1 d.attempt u.mine) u)
 attempt_it {m = m} {n = n} {o = o} {u = u} z d e wa aw gt own le len base all h =
     record { ours = record { me = h.ours.me; fit = h.ours.fit; guest = record { told = h.ours.guest.told; runner = λ _ _. refl; keeper = λ a. no g.runs a; running = λ x f. clash f tt; copying = λ c f. record { runs = g.runs; here = g.here; wish = (g.wanted wa).0; told = (g.wanted wa).1 }; paused = λ x f. clash f tt; committed = λ x f. clash f tt; receiving = λ x f. clash f tt }; cells = record { copies = λ a. let w = h.ours.cells.copies a in (w.0, refl, w.2); asleep = λ a. no aw a; took = let w = h.ours.cells.took in omega arith; done = let w = h.ours.cells.done in omega arith; parity = h.ours.cells.parity; most = le; committed = λ x f. clash f tt; receiving = λ x f. clash f tt }; order = record { later = λ a. omega (arith, later); had = h.ours.order.had; begun = h.ours.order.begun; untaken = λ _ _ w. let v = h.ours.cells.done in absurd (omega arith) }; commits = λ r f a b. let v = h.ours.cells.done in absurd (omega arith); copy = record { carries = carries; below = λ x f. clash f tt }; letters = λ l i. mine l (h.ours.letters l i) }; yours = record { me = h.yours.me; fit = h.yours.fit; guest = h.yours.guest; cells = h.yours.cells; order = record { later = λ b. no b away; had = λ b. no b away; begun = let w = h.yours.order.begun in omega arith; untaken = λ b. no b away }; commits = λ s f. clash f tt; copy = record { carries = λ c f. no (mover c h.yours f).0 away; below = h.yours.copy.below }; letters = λ l i. theirs l (h.yours.letters l i) } }
@@ -392,16 +374,16 @@ attempt_it {m = m} {n = n} {o = o} {u = u} z d e wa aw gt own le len base all h 
     carries c f =
         let a = h.ours.cells.done in
         let b = h.yours.cells.took in
-        subst (λ c. Carries m c o (on_mine (cell_at 1 d.attempt u.mine) u)) (some_same f)
+        subst (λ c. Carries m c o (on_mine (cell_at 1 d.attempt u.mine) u)) (same_Some _ _ f)
         (record { attempt = refl; own = own; done = omega arith; took = omega (arith, later); most = omega arith; ways = λ k w. absurd (omega arith); base = λ _. base; every = λ _ p l v. no (all p l) v; under = λ r i j. let w = (h.yours.cells.receiving r i).0 in absurd (omega (arith, later)) })
 
     mine : (l : List ℕ) → Legit m l n o u → Legit m l (on_top d.attempt (Copying d) n) o (on_mine (cell_at 1 d.attempt u.mine) u)
     mine l k =
-        record { probe = k.probe; page = k.page; commit = λ i. record { own = (k.commit i).own; some = (k.commit i).some; done = (k.commit i).done; past = λ _ r f. clash f tt }; ack = k.ack; refuse = λ i. record { own = (k.refuse i).own; begun = (k.refuse i).begun; dead = λ a. let w = (k.refuse i).begun in absurd (omega (arith, later)); untaken = λ a. let w = (k.refuse i).begun in absurd (omega (arith, later)) }; taken = k.taken; place = k.place; given = λ i r f. clash f tt; bears = λ i c f. no (mover c h.yours f).0 away; acked = λ i c f a. let w = (k.ack i).begun in let v = ap (λ z. z.attempt) (some_same f) in absurd (omega (arith, later)) }
+        record { probe = k.probe; page = k.page; commit = λ i. record { own = (k.commit i).own; some = (k.commit i).some; done = (k.commit i).done; past = λ _ r f. clash f tt }; ack = k.ack; refuse = λ i. record { own = (k.refuse i).own; begun = (k.refuse i).begun; dead = λ a. let w = (k.refuse i).begun in absurd (omega (arith, later)); untaken = λ a. let w = (k.refuse i).begun in absurd (omega (arith, later)) }; taken = k.taken; place = k.place; given = λ i r f. clash f tt; bears = λ i c f. no (mover c h.yours f).0 away; acked = λ i c f a. let w = (k.ack i).begun in let v = ap (λ z. z.attempt) (same_Some _ _ f) in absurd (omega (arith, later)) }
 
     theirs : (l : List ℕ) → Legit m l o n (flip u) → Legit m l o (on_top d.attempt (Copying d) n) (flip (on_mine (cell_at 1 d.attempt u.mine) u))
     theirs l k =
-        record { probe = λ i. from (k.probe i); page = λ i. from (k.page i); commit = λ i. record { own = (k.commit i).own; some = (k.commit i).some; done = (k.commit i).done; past = λ _. past (k.commit i).done (k.commit i).past }; ack = λ i. record { own = (k.ack i).own; begun = let w = (k.ack i).begun in omega arith }; refuse = λ i. record { own = (k.refuse i).own; begun = let w = (k.refuse i).begun in omega arith; dead = λ _ r f. clash f tt; untaken = (k.refuse i).untaken }; taken = k.taken; place = k.place; given = λ i r f a b c. let w = (k.page i).begun in absurd (omega arith); bears = λ i c f a. let w = (k.page i).begun in let v = ap (λ z. z.attempt) (some_same f) in absurd (omega arith); acked = λ i c f j s q. clash q tt }
+        record { probe = λ i. from (k.probe i); page = λ i. from (k.page i); commit = λ i. record { own = (k.commit i).own; some = (k.commit i).some; done = (k.commit i).done; past = λ _. past (k.commit i).done (k.commit i).past }; ack = λ i. record { own = (k.ack i).own; begun = let w = (k.ack i).begun in omega arith }; refuse = λ i. record { own = (k.refuse i).own; begun = let w = (k.refuse i).begun in omega arith; dead = λ _ r f. clash f tt; untaken = (k.refuse i).untaken }; taken = k.taken; place = k.place; given = λ i r f a b c. let w = (k.page i).begun in absurd (omega arith); bears = λ i c f a. let w = (k.page i).begun in let v = ap (λ z. z.attempt) (same_Some _ _ f) in absurd (omega arith); acked = λ i c f j s q. clash q tt }
       where
         from : From l (flip u) → From l (flip (on_mine (cell_at 1 d.attempt u.mine) u))
         from w = record { own = w.own; some = w.some; begun = let v = w.begun in omega arith }

@@ -1,6 +1,8 @@
 -- How fast a guest is moved: what a turn makes of the counts of a pass, and what a calm round does.
 -- Assumes nothing.
 use Rattle.std.proofs.Common.{◌≡◌, ℕ, ◌+◌, ◌-◌, ◌*◌, ◌%◌, ◌<◌, ◌≤◌, min, Bool, true, false, cond, ◌&&◌, ◌||◌, eqb, ltb, leb, ◌⊎◌, List, Some, None, sym, refl, ap, ◌∙◌, subst, inl, inr, arith, length}
+use Rattle.moving.proofs.Scans.{paused_same}
+use Rattle.moving.proofs.Passes.{rises_due}
 use Rattle.std.proofs.lemmas.List.{length_push}
 use mathlib.Core.Path.{subst⁻¹}
 use Rattle.std.proofs.lemmas.Bool.{and_parts, and_cases, cases_eq, cases_lt, cond_both, eq-eqb, ne_eqb, eqb-true, eqb-false, le-leb}
@@ -161,12 +163,9 @@ kin_then a b =
 kin_none : (s h : State) → moving h ≡ None → Kin s h
 kin_none s h f = record { copying = λ y e. none_some (sym f ∙ ap moving e); paused = λ z e. none_some (sym f ∙ ap moving e) }
 
--- the transfer, or the pause, that a state has
+-- the transfer that a state has
 copying_same : {x y : Transfer} → Copying x ≡ Copying y → x ≡ y
 copying_same e = cc
-
-paused_same : {x y : Pause} → Paused x ≡ Paused y → x ≡ y
-paused_same e = cc
 
 -- an acknowledgement
 kin_acked : (t p : ℕ) (s : State) → Kin s (acked_in t p s)
@@ -255,10 +254,6 @@ kin_paced pages (Paused y) k p =
     let w : PauseWell pages z.0 = subst (Paced pages) z.1 p in
     record { pass = counts_well z.2 w.pass; turns = z.2.turns ∙ w.turns ∙ sym z.3; most = subst⁻¹ (λ t. t ≤ 27) z.3 w.most; prev = subst⁻¹ (λ t. t ≤ 37) z.2.prev w.prev }
 kin_paced pages (Committed x) k p = tt
-
--- After a letter.
-pub heed_paced : (pages : ℕ) (l : Letter) (n : Node) → Paced pages n.state → Paced pages (heeded pages l n).state
-heed_paced pages l n p = kin_paced pages (heeded pages l n).state (heed_kin pages l n) p
 
 -- After all letters of a turn.
 pub heard_paced : {pages : ℕ} {n m : Node} → Heard pages n m → Paced pages n.state → Paced pages m.state
@@ -429,22 +424,14 @@ dirties {x = x} {y = y} r g =
     let d = g.clean (omega arith) in
     omega arith
 
--- such a count goes up with each page that is written
-rises : (f : ℕ → Bool) (k : ℕ) → Rises (λ q b. leb k q && (b || f q))
-rises f k q e = go (leb k q) e
-  where
-    go : (c : Bool) → (c && f q) ≡ true → (c && true) ≡ true
-    go true z = refl
-    go false z = z
-
 -- pages that were sent or are still to be sent
 dues : {pages b : ℕ} {T U : ℕ → Bool} {w v : World} {x y : Transfer} → Writes pages b T U w v → Went x w y v → y.sent + rest pages U y ≤ x.sent + rest pages T x + b
 unfolding todo count_from
 dues {pages = pages} {b = b} {T = T} {U = U} {w = w} {v = v} {x = x} {y = y} r g =
     let i = r.busy in
     let j = r.order in
-    let a = r.before (λ q b. leb x.cursor q && (b || unsent x q)) (rises (unsent x) x.cursor) pages in
-    let c = r.after (λ q b. leb y.cursor q && (b || unsent y q)) (rises (unsent y) y.cursor) pages in
+    let a = r.before (λ q b. leb x.cursor q && (b || unsent x q)) (rises_due x.cursor (unsent x)) pages in
+    let c = r.after (λ q b. leb y.cursor q && (b || unsent y q)) (rises_due y.cursor (unsent y)) pages in
     let d = g.todo (omega arith) in
     let e : todo x w ≡ count (λ q. leb x.cursor q && ((me w).touched q || unsent x q)) pages = ap (count (λ q. leb x.cursor q && ((me w).touched q || unsent x q))) r.quiet in
     let f : todo y v ≡ count (λ q. leb y.cursor q && ((me v).touched q || unsent y q)) pages = ap (count (λ q. leb y.cursor q && ((me v).touched q || unsent y q))) r.done in

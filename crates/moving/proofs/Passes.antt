@@ -16,7 +16,8 @@ use Rattle.moving.specs.Calm.{row_here, row_there, heads, Rises, Calmly, Rests, 
 use Rattle.moving.proofs.Calms.{calm_self, calm_then, rests_then, length_heads, swept}
 
 -- ASKS THAT LOOK AT NO PAGE
-rises_due : (c : ℕ) (f : ℕ → Bool) → Rises (λ q b. leb c q && (b || f q))
+-- such a count goes up with each page that is written
+pub rises_due : (c : ℕ) (f : ℕ → Bool) → Rises (λ q b. leb c q && (b || f q))
 rises_due c f q e = go (leb c q) e
   where
     go : (b : Bool) → (b && (false || f q)) ≡ true → (b && (true || f q)) ≡ true

@@ -1,6 +1,7 @@
 -- What a transfer does: it scans, is acknowledged, begins a pass, stops.
 -- Assumes nothing.
 use Rattle.std.proofs.Common.{◌≡◌, ℕ, ◌+◌, ◌-◌, ◌%◌, ◌<◌, ◌≤◌, Bool, true, false, cond, not, ◌&&◌, eqb, ltb, List, Option, sym, refl, ap, ◌∙◌, subst, ap₂, arith, ltb-false, ltb-true, eqb-true, length}
+use Rattle.std.proofs.lemmas.Option.{same_Some}
 use borrow.Author.Tests.{eqb-false}
 use Rattle.moving.specs.declared.Node.{Node}
 use Rattle.moving.specs.declared.state.Transfer.{Transfer}
@@ -10,7 +11,7 @@ use Rattle.moving.specs.declared.state.State.TheVariants.{Receiving, Copying, Pa
 use Rattle.moving.specs.Hosts.{Host, put, host_of}
 use Rattle.moving.specs.Model.{moving, recount, on_state}
 use Rattle.moving.specs.Invariant.{View, flip, kind_of, attempt_of, place_of, page_of, words_of, unsent, slot, end, Flies, Stands, Copied, Under, Carries, Bears, Legit, In, Both, Pushed, Acked}
-use Rattle.moving.proofs.Moves.{no, clash, some_same, mover, on_mine, on_guest, went}
+use Rattle.moving.proofs.Moves.{no, clash, mover, on_mine, on_guest, went}
 
 abbrev pub touch_to : (ℕ → Bool) → Host → Host
 touch_to f h = host_of h.page f h.cell h.told h.row h.old
@@ -19,31 +20,31 @@ touch_to f h = host_of h.page f h.cell h.told h.row h.old
 pub copying_to : {m : ℕ} {x y : List (List ℕ)} {n o : Node} {u : View} (c d : Transfer) (t : ℕ → Bool) → n.state ≡ Copying c → d.attempt ≡ c.attempt → Carries m d o (on_mine (touch_to t u.mine) u) → ((l : List ℕ) → Bears l c o (flip u) → Bears l d o (flip (on_mine (touch_to t u.mine) u))) → Both m x y n o u → Both m x y (on_state (Copying d) n) o (on_mine (touch_to t u.mine) u)
 copying_to {m = m} {n = n} {o = o} {u = u} c d t e at ca be h =
     let g = h.ours.guest.copying c e in
-    record { ours = record { me = h.ours.me; fit = h.ours.fit; guest = record { told = h.ours.guest.told; runner = λ _ _. refl; keeper = λ a. no g.runs a; running = λ x f. clash f tt; copying = λ _ _. g; paused = λ x f. clash f tt; committed = λ x f. clash f tt; receiving = λ x f. clash f tt }; cells = record { copies = h.ours.cells.copies; asleep = λ a. clash (sym (h.ours.cells.asleep a) ∙ e) tt; took = h.ours.cells.took; done = h.ours.cells.done; parity = h.ours.cells.parity; most = h.ours.cells.most; committed = λ x f. clash f tt; receiving = λ x f. clash f tt }; order = h.ours.order; commits = h.ours.commits; copy = record { carries = λ b f. subst (λ b. Carries m b o (on_mine (touch_to t u.mine) u)) (some_same f) ca; below = λ x f. clash f tt }; letters = λ l i. mine l (h.ours.letters l i) }; yours = record { me = h.yours.me; fit = h.yours.fit; guest = h.yours.guest; cells = h.yours.cells; order = h.yours.order; commits = λ s f. clash f tt; copy = record { carries = λ b f. no (mover b h.yours f).0 (ap not g.here); below = h.yours.copy.below }; letters = λ l i. theirs l (h.yours.letters l i) } }
+    record { ours = record { me = h.ours.me; fit = h.ours.fit; guest = record { told = h.ours.guest.told; runner = λ _ _. refl; keeper = λ a. no g.runs a; running = λ x f. clash f tt; copying = λ _ _. g; paused = λ x f. clash f tt; committed = λ x f. clash f tt; receiving = λ x f. clash f tt }; cells = record { copies = h.ours.cells.copies; asleep = λ a. clash (sym (h.ours.cells.asleep a) ∙ e) tt; took = h.ours.cells.took; done = h.ours.cells.done; parity = h.ours.cells.parity; most = h.ours.cells.most; committed = λ x f. clash f tt; receiving = λ x f. clash f tt }; order = h.ours.order; commits = h.ours.commits; copy = record { carries = λ b f. subst (λ b. Carries m b o (on_mine (touch_to t u.mine) u)) (same_Some _ _ f) ca; below = λ x f. clash f tt }; letters = λ l i. mine l (h.ours.letters l i) }; yours = record { me = h.yours.me; fit = h.yours.fit; guest = h.yours.guest; cells = h.yours.cells; order = h.yours.order; commits = λ s f. clash f tt; copy = record { carries = λ b f. no (mover b h.yours f).0 (ap not g.here); below = h.yours.copy.below }; letters = λ l i. theirs l (h.yours.letters l i) } }
   where
     mine : (l : List ℕ) → Legit m l n o u → Legit m l (on_state (Copying d) n) o (on_mine (touch_to t u.mine) u)
     mine l k =
-        record { probe = k.probe; page = k.page; commit = λ i. record { own = (k.commit i).own; some = (k.commit i).some; done = (k.commit i).done; past = λ _ r f. clash f tt }; ack = k.ack; refuse = k.refuse; taken = k.taken; place = k.place; given = λ i r f. clash f tt; bears = λ i c f a. let b = k.bears i c f a in record { high = b.high; slot = b.slot; soon = b.soon; now = λ s j. clash j tt }; acked = λ i b f a r j w. let q = sym (ap (λ z. z.attempt) (some_same f)) ∙ at in k.acked i c (ap moving e) (a ∙ q) r j (w ∙ q) }
+        record { probe = k.probe; page = k.page; commit = λ i. record { own = (k.commit i).own; some = (k.commit i).some; done = (k.commit i).done; past = λ _ r f. clash f tt }; ack = k.ack; refuse = k.refuse; taken = k.taken; place = k.place; given = λ i r f. clash f tt; bears = λ i c f a. let b = k.bears i c f a in record { high = b.high; slot = b.slot; soon = b.soon; now = λ s j. clash j tt }; acked = λ i b f a r j w. let q = sym (ap (λ z. z.attempt) (same_Some _ _ f)) ∙ at in k.acked i c (ap moving e) (a ∙ q) r j (w ∙ q) }
 
     theirs : (l : List ℕ) → Legit m l o n (flip u) → Legit m l o (on_state (Copying d) n) (flip (on_mine (touch_to t u.mine) u))
     theirs l k =
-        record { probe = k.probe; page = k.page; commit = k.commit; ack = k.ack; refuse = λ i. record { own = (k.refuse i).own; begun = (k.refuse i).begun; dead = λ _ r f. clash f tt; untaken = (k.refuse i).untaken }; taken = k.taken; place = k.place; given = k.given; bears = λ i b f a. let q = sym (ap (λ z. z.attempt) (some_same f)) ∙ at in subst (λ b. Bears l b o (flip (on_mine (touch_to t u.mine) u))) (some_same f) (be l (k.bears i c (ap moving e) (a ∙ q))); acked = λ i c f a r j. clash j tt }
+        record { probe = k.probe; page = k.page; commit = k.commit; ack = k.ack; refuse = λ i. record { own = (k.refuse i).own; begun = (k.refuse i).begun; dead = λ _ r f. clash f tt; untaken = (k.refuse i).untaken }; taken = k.taken; place = k.place; given = k.given; bears = λ i b f a. let q = sym (ap (λ z. z.attempt) (same_Some _ _ f)) ∙ at in subst (λ b. Bears l b o (flip (on_mine (touch_to t u.mine) u))) (same_Some _ _ f) (be l (k.bears i c (ap moving e) (a ∙ q))); acked = λ i c f a r j. clash j tt }
 
-paused_same : {a b : Pause} → Paused a ≡ Paused b → a ≡ b
+pub paused_same : {a b : Pause} → Paused a ≡ Paused b → a ≡ b
 paused_same e = cc
 
 pub paused_to : {m : ℕ} {x y : List (List ℕ)} {n o : Node} {u : View} (c d : Pause) (t : ℕ → Bool) → n.state ≡ Paused c → d.transfer.attempt ≡ c.transfer.attempt → Carries m d.transfer o (on_mine (touch_to t u.mine) u) → ((p : ℕ) → p < d.transfer.cursor → (unsent d.transfer p ≡ false) × (t p ≡ false)) → ((l : List ℕ) → Bears l c.transfer o (flip u) → Bears l d.transfer o (flip (on_mine (touch_to t u.mine) u))) → Both m x y n o u → Both m x y (on_state (Paused d) n) o (on_mine (touch_to t u.mine) u)
 paused_to {m = m} {n = n} {o = o} {u = u} c d t e at ca lo be h =
     let g = h.ours.guest.paused c e in
-    record { ours = record { me = h.ours.me; fit = h.ours.fit; guest = record { told = h.ours.guest.told; runner = λ a _. no a g.runs; keeper = λ _ _ _ _. refl; running = λ x f. clash f tt; copying = λ x f. clash f tt; paused = λ _ _. g; committed = λ x f. clash f tt; receiving = λ x f. clash f tt }; cells = record { copies = h.ours.cells.copies; asleep = λ a. clash (sym (h.ours.cells.asleep a) ∙ e) tt; took = h.ours.cells.took; done = h.ours.cells.done; parity = h.ours.cells.parity; most = h.ours.cells.most; committed = λ x f. clash f tt; receiving = λ x f. clash f tt }; order = h.ours.order; commits = h.ours.commits; copy = record { carries = λ b f. subst (λ b. Carries m b o (on_mine (touch_to t u.mine) u)) (some_same f) ca; below = λ x f. subst (λ x. (p : ℕ) → p < x.transfer.cursor → (unsent x.transfer p ≡ false) × (t p ≡ false)) (paused_same f) lo }; letters = λ l i. mine l (h.ours.letters l i) }; yours = record { me = h.yours.me; fit = h.yours.fit; guest = h.yours.guest; cells = h.yours.cells; order = h.yours.order; commits = λ s f. clash f tt; copy = record { carries = λ b f. no (mover b h.yours f).0 (ap not g.here); below = h.yours.copy.below }; letters = λ l i. theirs l (h.yours.letters l i) } }
+    record { ours = record { me = h.ours.me; fit = h.ours.fit; guest = record { told = h.ours.guest.told; runner = λ a _. no a g.runs; keeper = λ _ _ _ _. refl; running = λ x f. clash f tt; copying = λ x f. clash f tt; paused = λ _ _. g; committed = λ x f. clash f tt; receiving = λ x f. clash f tt }; cells = record { copies = h.ours.cells.copies; asleep = λ a. clash (sym (h.ours.cells.asleep a) ∙ e) tt; took = h.ours.cells.took; done = h.ours.cells.done; parity = h.ours.cells.parity; most = h.ours.cells.most; committed = λ x f. clash f tt; receiving = λ x f. clash f tt }; order = h.ours.order; commits = h.ours.commits; copy = record { carries = λ b f. subst (λ b. Carries m b o (on_mine (touch_to t u.mine) u)) (same_Some _ _ f) ca; below = λ x f. subst (λ x. (p : ℕ) → p < x.transfer.cursor → (unsent x.transfer p ≡ false) × (t p ≡ false)) (paused_same f) lo }; letters = λ l i. mine l (h.ours.letters l i) }; yours = record { me = h.yours.me; fit = h.yours.fit; guest = h.yours.guest; cells = h.yours.cells; order = h.yours.order; commits = λ s f. clash f tt; copy = record { carries = λ b f. no (mover b h.yours f).0 (ap not g.here); below = h.yours.copy.below }; letters = λ l i. theirs l (h.yours.letters l i) } }
   where
     mine : (l : List ℕ) → Legit m l n o u → Legit m l (on_state (Paused d) n) o (on_mine (touch_to t u.mine) u)
     mine l k =
-        record { probe = k.probe; page = k.page; commit = λ i. record { own = (k.commit i).own; some = (k.commit i).some; done = (k.commit i).done; past = λ _ r f. clash f tt }; ack = k.ack; refuse = k.refuse; taken = k.taken; place = k.place; given = λ i r f. clash f tt; bears = λ i c f a. let b = k.bears i c f a in record { high = b.high; slot = b.slot; soon = b.soon; now = λ s j. clash j tt }; acked = λ i b f a r j w. let q = sym (ap (λ z. z.attempt) (some_same f)) ∙ at in k.acked i c.transfer (ap moving e) (a ∙ q) r j (w ∙ q) }
+        record { probe = k.probe; page = k.page; commit = λ i. record { own = (k.commit i).own; some = (k.commit i).some; done = (k.commit i).done; past = λ _ r f. clash f tt }; ack = k.ack; refuse = k.refuse; taken = k.taken; place = k.place; given = λ i r f. clash f tt; bears = λ i c f a. let b = k.bears i c f a in record { high = b.high; slot = b.slot; soon = b.soon; now = λ s j. clash j tt }; acked = λ i b f a r j w. let q = sym (ap (λ z. z.attempt) (same_Some _ _ f)) ∙ at in k.acked i c.transfer (ap moving e) (a ∙ q) r j (w ∙ q) }
 
     theirs : (l : List ℕ) → Legit m l o n (flip u) → Legit m l o (on_state (Paused d) n) (flip (on_mine (touch_to t u.mine) u))
     theirs l k =
-        record { probe = k.probe; page = k.page; commit = k.commit; ack = k.ack; refuse = λ i. record { own = (k.refuse i).own; begun = (k.refuse i).begun; dead = λ _ r f. clash f tt; untaken = (k.refuse i).untaken }; taken = k.taken; place = k.place; given = k.given; bears = λ i b f a. let q = sym (ap (λ z. z.attempt) (some_same f)) ∙ at in subst (λ b. Bears l b o (flip (on_mine (touch_to t u.mine) u))) (some_same f) (be l (k.bears i c.transfer (ap moving e) (a ∙ q))); acked = λ i c f a r j. clash j tt }
+        record { probe = k.probe; page = k.page; commit = k.commit; ack = k.ack; refuse = λ i. record { own = (k.refuse i).own; begun = (k.refuse i).begun; dead = λ _ r f. clash f tt; untaken = (k.refuse i).untaken }; taken = k.taken; place = k.place; given = k.given; bears = λ i b f a. let q = sym (ap (λ z. z.attempt) (same_Some _ _ f)) ∙ at in subst (λ b. Bears l b o (flip (on_mine (touch_to t u.mine) u))) (same_Some _ _ f) (be l (k.bears i c.transfer (ap moving e) (a ∙ q))); acked = λ i c f a r j. clash j tt }
 
 -- SCAN: page p goes into the window
 abbrev pub clear : ℕ → Host → Host
@@ -215,7 +216,7 @@ stood u = on_guest false u.here u.lost u.mine.page false u.wish u
 
 pub stop_it : {m : ℕ} {x y : List (List ℕ)} {n o : Node} {u : View} (c : Transfer) (z : Pause) → n.state ≡ Copying c → z.transfer ≡ recount c 0 z.transfer.sent z.transfer.turns z.transfer.prev → Both m x y n o u → Both m x y (on_state (Paused z) n) o (stood u)
 stop_it {m = m} {n = n} {o = o} {u = u} c z e tr h =
-    record { ours = record { me = h.ours.me; fit = record { sides = h.ours.fit.sides; some = h.ours.fit.some; few = h.ours.fit.few; lost = λ a. no a refl }; guest = record { told = λ a. no a g.told; runner = λ a. no a refl; keeper = λ _ _ _ _. refl; running = λ x f. clash f tt; copying = λ x f. clash f tt; paused = λ _ _. record { runs = refl; lost = h.ours.fit.lost g.runs; hurt = refl; here = g.here; wish = g.wish; told = g.told; same = λ _ _. refl }; committed = λ x f. clash f tt; receiving = λ x f. clash f tt }; cells = record { copies = h.ours.cells.copies; asleep = λ a. clash (sym (h.ours.cells.asleep a) ∙ e) tt; took = h.ours.cells.took; done = h.ours.cells.done; parity = h.ours.cells.parity; most = h.ours.cells.most; committed = λ x f. clash f tt; receiving = λ x f. clash f tt }; order = h.ours.order; commits = λ r f a b. let w = ca.done in let v = ca.attempt in absurd (omega arith); copy = record { carries = λ b f. subst (λ b. Carries m b o u) (sym tr ∙ some_same f) ca; below = λ x f p l. let q = ap (λ x. x.transfer.cursor) (paused_same f) in let v = ap (λ c. c.cursor) tr in absurd (omega arith) }; letters = λ l i. mine l (h.ours.letters l i) }; yours = record { me = h.yours.me; fit = record { sides = h.yours.fit.sides; some = h.yours.fit.some; few = h.yours.fit.few; lost = λ a. no a refl }; guest = record { told = λ a. no (h.yours.guest.told a).1 away; runner = λ a. no a refl; keeper = λ _ _ _ b. no b away; running = λ y f. no (h.yours.guest.running y f).here away; copying = λ y f. no (h.yours.guest.copying y f).here away; paused = λ y f. no (h.yours.guest.paused y f).here away; committed = λ y f a b. no b away; receiving = h.yours.guest.receiving }; cells = h.yours.cells; order = h.yours.order; commits = λ s f. clash f tt; copy = record { carries = λ b f. no (mover b h.yours f).0 away; below = h.yours.copy.below }; letters = λ l i. theirs l (h.yours.letters l i) } }
+    record { ours = record { me = h.ours.me; fit = record { sides = h.ours.fit.sides; some = h.ours.fit.some; few = h.ours.fit.few; lost = λ a. no a refl }; guest = record { told = λ a. no a g.told; runner = λ a. no a refl; keeper = λ _ _ _ _. refl; running = λ x f. clash f tt; copying = λ x f. clash f tt; paused = λ _ _. record { runs = refl; lost = h.ours.fit.lost g.runs; hurt = refl; here = g.here; wish = g.wish; told = g.told; same = λ _ _. refl }; committed = λ x f. clash f tt; receiving = λ x f. clash f tt }; cells = record { copies = h.ours.cells.copies; asleep = λ a. clash (sym (h.ours.cells.asleep a) ∙ e) tt; took = h.ours.cells.took; done = h.ours.cells.done; parity = h.ours.cells.parity; most = h.ours.cells.most; committed = λ x f. clash f tt; receiving = λ x f. clash f tt }; order = h.ours.order; commits = λ r f a b. let w = ca.done in let v = ca.attempt in absurd (omega arith); copy = record { carries = λ b f. subst (λ b. Carries m b o u) (sym tr ∙ same_Some _ _ f) ca; below = λ x f p l. let q = ap (λ x. x.transfer.cursor) (paused_same f) in let v = ap (λ c. c.cursor) tr in absurd (omega arith) }; letters = λ l i. mine l (h.ours.letters l i) }; yours = record { me = h.yours.me; fit = record { sides = h.yours.fit.sides; some = h.yours.fit.some; few = h.yours.fit.few; lost = λ a. no a refl }; guest = record { told = λ a. no (h.yours.guest.told a).1 away; runner = λ a. no a refl; keeper = λ _ _ _ b. no b away; running = λ y f. no (h.yours.guest.running y f).here away; copying = λ y f. no (h.yours.guest.copying y f).here away; paused = λ y f. no (h.yours.guest.paused y f).here away; committed = λ y f a b. no b away; receiving = h.yours.guest.receiving }; cells = h.yours.cells; order = h.yours.order; commits = λ s f. clash f tt; copy = record { carries = λ b f. no (mover b h.yours f).0 away; below = h.yours.copy.below }; letters = λ l i. theirs l (h.yours.letters l i) } }
   where
     g : Copied u
     g = h.ours.guest.copying c e
@@ -231,16 +232,16 @@ stop_it {m = m} {n = n} {o = o} {u = u} c z e tr h =
 
     mine : (l : List ℕ) → Legit m l n o u → Legit m l (on_state (Paused z) n) o (stood u)
     mine l k =
-        record { probe = k.probe; page = k.page; commit = λ i. record { own = (k.commit i).own; some = (k.commit i).some; done = (k.commit i).done; past = λ _ r f. clash f tt }; ack = k.ack; refuse = k.refuse; taken = k.taken; place = k.place; given = λ i r f. clash f tt; bears = λ i c f a. let b = k.bears i c f a in record { high = b.high; slot = b.slot; soon = b.soon; now = λ s j. clash j tt }; acked = λ i b f a r j w. let q = sym (ap (λ z. z.attempt) (some_same f)) ∙ at in k.acked i c (ap moving e) (a ∙ q) r j (w ∙ q) }
+        record { probe = k.probe; page = k.page; commit = λ i. record { own = (k.commit i).own; some = (k.commit i).some; done = (k.commit i).done; past = λ _ r f. clash f tt }; ack = k.ack; refuse = k.refuse; taken = k.taken; place = k.place; given = λ i r f. clash f tt; bears = λ i c f a. let b = k.bears i c f a in record { high = b.high; slot = b.slot; soon = b.soon; now = λ s j. clash j tt }; acked = λ i b f a r j w. let q = sym (ap (λ z. z.attempt) (same_Some _ _ f)) ∙ at in k.acked i c (ap moving e) (a ∙ q) r j (w ∙ q) }
 
     theirs : (l : List ℕ) → Legit m l o n (flip u) → Legit m l o (on_state (Paused z) n) (flip (stood u))
     theirs l k =
-        record { probe = k.probe; page = k.page; commit = k.commit; ack = k.ack; refuse = λ i. record { own = (k.refuse i).own; begun = (k.refuse i).begun; dead = λ _ r f. clash f tt; untaken = (k.refuse i).untaken }; taken = k.taken; place = k.place; given = k.given; bears = λ i b f a. let q = sym (ap (λ z. z.attempt) (some_same f)) ∙ at in subst (λ b. Bears l b o (flip u)) (sym tr ∙ some_same f) (k.bears i c (ap moving e) (a ∙ q)); acked = λ i c f a r j. clash j tt }
+        record { probe = k.probe; page = k.page; commit = k.commit; ack = k.ack; refuse = λ i. record { own = (k.refuse i).own; begun = (k.refuse i).begun; dead = λ _ r f. clash f tt; untaken = (k.refuse i).untaken }; taken = k.taken; place = k.place; given = k.given; bears = λ i b f a. let q = sym (ap (λ z. z.attempt) (same_Some _ _ f)) ∙ at in subst (λ b. Bears l b o (flip u)) (sym tr ∙ same_Some _ _ f) (k.bears i c (ap moving e) (a ∙ q)); acked = λ i c f a r j. clash j tt }
 
 -- AGAIN: it goes on in the same attempt
 pub go_again : {m : ℕ} {x y : List (List ℕ)} {n o : Node} {u : View} (z : Pause) (k s t : ℕ) (v : Option ℕ) → n.state ≡ Paused z → Both m x y n o u → Both m x y (record { me = n.me; awake = n.awake; took = z.transfer.attempt; top = n.top; committed = n.committed; asked = n.asked; state = Copying (recount z.transfer k s t v) }) o (went z.transfer.attempt u)
 go_again {m = m} {n = n} {o = o} {u = u} z kk s t v e h =
-    record { ours = record { me = h.ours.me; fit = record { sides = h.ours.fit.sides; some = h.ours.fit.some; few = h.ours.fit.few; lost = λ _. st.lost }; guest = record { told = λ a. no a st.told; runner = λ _ _. refl; keeper = λ a. no refl a; running = λ x f. clash f tt; copying = λ _ _. record { runs = refl; here = refl; wish = ap₂ (λ a b. a && b) st.wish st.here; told = st.told }; paused = λ x f. clash f tt; committed = λ x f. clash f tt; receiving = λ x f. clash f tt }; cells = record { copies = λ a. let w = h.ours.cells.copies a in (refl, w.1, w.2); asleep = λ a. clash (sym (h.ours.cells.asleep a) ∙ e) tt; took = omega (arith, ca.attempt); done = h.ours.cells.done; parity = h.ours.cells.parity; most = h.ours.cells.most; committed = λ x f. clash f tt; receiving = λ x f. clash f tt }; order = record { later = λ _. h.ours.order.later st.here; had = λ _ _ _. let w = h.ours.order.later st.here in omega (arith, ca.attempt); begun = h.ours.order.begun; untaken = λ _. h.ours.order.untaken st.here }; commits = λ r f a b. let w = ca.done in let v = ca.attempt in absurd (omega arith); copy = record { carries = λ b f. subst (λ b. Carries m b o (went z.transfer.attempt u)) (some_same f) ca; below = λ x f. clash f tt }; letters = λ l i. mine l (h.ours.letters l i) }; yours = record { me = h.yours.me; fit = record { sides = h.yours.fit.sides; some = h.yours.fit.some; few = h.yours.fit.few; lost = λ _. st.lost }; guest = record { told = λ a. no (h.yours.guest.told a).1 away; runner = λ _ b. no b refl; keeper = λ a. no refl a; running = λ y f. no (h.yours.guest.running y f).here away; copying = λ y f. no (h.yours.guest.copying y f).here away; paused = λ y f. no (h.yours.guest.paused y f).here away; committed = λ y f a b. no b refl; receiving = λ s f. refl }; cells = h.yours.cells; order = record { later = λ b. no b refl; had = λ b. no b refl; begun = h.yours.order.begun; untaken = λ b. no b refl }; commits = λ s f. clash f tt; copy = record { carries = λ c f. no (mover c h.yours f).0 away; below = h.yours.copy.below }; letters = λ l i. theirs l (h.yours.letters l i) } }
+    record { ours = record { me = h.ours.me; fit = record { sides = h.ours.fit.sides; some = h.ours.fit.some; few = h.ours.fit.few; lost = λ _. st.lost }; guest = record { told = λ a. no a st.told; runner = λ _ _. refl; keeper = λ a. no refl a; running = λ x f. clash f tt; copying = λ _ _. record { runs = refl; here = refl; wish = ap₂ (λ a b. a && b) st.wish st.here; told = st.told }; paused = λ x f. clash f tt; committed = λ x f. clash f tt; receiving = λ x f. clash f tt }; cells = record { copies = λ a. let w = h.ours.cells.copies a in (refl, w.1, w.2); asleep = λ a. clash (sym (h.ours.cells.asleep a) ∙ e) tt; took = omega (arith, ca.attempt); done = h.ours.cells.done; parity = h.ours.cells.parity; most = h.ours.cells.most; committed = λ x f. clash f tt; receiving = λ x f. clash f tt }; order = record { later = λ _. h.ours.order.later st.here; had = λ _ _ _. let w = h.ours.order.later st.here in omega (arith, ca.attempt); begun = h.ours.order.begun; untaken = λ _. h.ours.order.untaken st.here }; commits = λ r f a b. let w = ca.done in let v = ca.attempt in absurd (omega arith); copy = record { carries = λ b f. subst (λ b. Carries m b o (went z.transfer.attempt u)) (same_Some _ _ f) ca; below = λ x f. clash f tt }; letters = λ l i. mine l (h.ours.letters l i) }; yours = record { me = h.yours.me; fit = record { sides = h.yours.fit.sides; some = h.yours.fit.some; few = h.yours.fit.few; lost = λ _. st.lost }; guest = record { told = λ a. no (h.yours.guest.told a).1 away; runner = λ _ b. no b refl; keeper = λ a. no refl a; running = λ y f. no (h.yours.guest.running y f).here away; copying = λ y f. no (h.yours.guest.copying y f).here away; paused = λ y f. no (h.yours.guest.paused y f).here away; committed = λ y f a b. no b refl; receiving = λ s f. refl }; cells = h.yours.cells; order = record { later = λ b. no b refl; had = λ b. no b refl; begun = h.yours.order.begun; untaken = λ b. no b refl }; commits = λ s f. clash f tt; copy = record { carries = λ c f. no (mover c h.yours f).0 away; below = h.yours.copy.below }; letters = λ l i. theirs l (h.yours.letters l i) } }
   where
     st : Stands u
     st = h.ours.guest.paused z e
@@ -253,8 +254,8 @@ go_again {m = m} {n = n} {o = o} {u = u} z kk s t v e h =
 
     mine : (l : List ℕ) → Legit m l n o u → Legit m l (record { me = n.me; awake = n.awake; took = z.transfer.attempt; top = n.top; committed = n.committed; asked = n.asked; state = Copying (recount z.transfer kk s t v) }) o (went z.transfer.attempt u)
     mine l k =
-        record { probe = k.probe; page = k.page; commit = λ i. record { own = (k.commit i).own; some = (k.commit i).some; done = (k.commit i).done; past = λ _ r f. clash f tt }; ack = k.ack; refuse = k.refuse; taken = k.taken; place = k.place; given = λ i r f. clash f tt; bears = λ i c f d. let b = k.bears i c f d in record { high = b.high; slot = b.slot; soon = b.soon; now = λ s j. clash j tt }; acked = λ i b f a r j w. let q = sym (ap (λ z. z.attempt) (some_same f)) in k.acked i z.transfer (ap moving e) (a ∙ q) r j (w ∙ q) }
+        record { probe = k.probe; page = k.page; commit = λ i. record { own = (k.commit i).own; some = (k.commit i).some; done = (k.commit i).done; past = λ _ r f. clash f tt }; ack = k.ack; refuse = k.refuse; taken = k.taken; place = k.place; given = λ i r f. clash f tt; bears = λ i c f d. let b = k.bears i c f d in record { high = b.high; slot = b.slot; soon = b.soon; now = λ s j. clash j tt }; acked = λ i b f a r j w. let q = sym (ap (λ z. z.attempt) (same_Some _ _ f)) in k.acked i z.transfer (ap moving e) (a ∙ q) r j (w ∙ q) }
 
     theirs : (l : List ℕ) → Legit m l o n (flip u) → Legit m l o (record { me = n.me; awake = n.awake; took = z.transfer.attempt; top = n.top; committed = n.committed; asked = n.asked; state = Copying (recount z.transfer kk s t v) }) (flip (went z.transfer.attempt u))
     theirs l k =
-        record { probe = k.probe; page = k.page; commit = k.commit; ack = k.ack; refuse = λ i. record { own = (k.refuse i).own; begun = (k.refuse i).begun; dead = λ _ r f. clash f tt; untaken = λ a. let v = (k.refuse i).untaken a in let w = h.ours.order.had st.here (omega arith) (ap (λ z. z % 2) (sym a) ∙ (k.refuse i).own) in absurd (omega arith) }; taken = λ i. record { own = (k.taken i).own; took = let w = (k.taken i).took in let z = h.ours.cells.took in omega (arith, ca.attempt) }; place = k.place; given = k.given; bears = λ i b f a. let q = sym (ap (λ z. z.attempt) (some_same f)) in subst (λ b. Bears l b o (flip u)) (some_same f) (k.bears i z.transfer (ap moving e) (a ∙ q)); acked = λ i c f d s j. clash j tt }
+        record { probe = k.probe; page = k.page; commit = k.commit; ack = k.ack; refuse = λ i. record { own = (k.refuse i).own; begun = (k.refuse i).begun; dead = λ _ r f. clash f tt; untaken = λ a. let v = (k.refuse i).untaken a in let w = h.ours.order.had st.here (omega arith) (ap (λ z. z % 2) (sym a) ∙ (k.refuse i).own) in absurd (omega arith) }; taken = λ i. record { own = (k.taken i).own; took = let w = (k.taken i).took in let z = h.ours.cells.took in omega (arith, ca.attempt) }; place = k.place; given = k.given; bears = λ i b f a. let q = sym (ap (λ z. z.attempt) (same_Some _ _ f)) in subst (λ b. Bears l b o (flip u)) (same_Some _ _ f) (k.bears i z.transfer (ap moving e) (a ∙ q)); acked = λ i c f d s j. clash j tt }

@@ -1,6 +1,7 @@
 -- What is done keeps the world whole: one lemma for each kind of step.
 -- Assumes nothing.
 use Rattle.std.proofs.Common.{◌≡◌, ℕ, ◌+◌, ◌-◌, ◌%◌, ◌<◌, ◌≤◌, Bool, true, false, cond, not, ◌&&◌, ◌||◌, T, eqb, ltb, ◌⊎◌, List, Option, [], ◌∷◌, ◌++◌, length, sym, refl, ap, ◌∙◌, subst, inl, inr, arith, eq-eqb, ne_eqb, eqb-true}
+use Rattle.moving.specs.Acted.{commits}
 use mathlib.Core.Path.{subst⁻¹, subst₃}
 use mathlib.Core.List.Memᴰ
 use mathlib.Core.List.{Memᴰ}
@@ -16,9 +17,9 @@ use Rattle.moving.specs.Hosts.{Host, World, Goes, Goes.rest, Goes.writes, Fallen
 use Rattle.moving.specs.Model.{recount, on_state, on_top, runs_again}
 use Rattle.moving.specs.Invariant.{View, see, view, flip, kind_of, attempt_of, place_of, page_of, words_of, unsent, end, In, Legit, Both, Whole, Pushed, fresh}
 use Rattle.moving.proofs.Views.{put_same, put_other, put_where, put_off, apart, apart', place, whole_at, both_swap}
-use Rattle.moving.proofs.Moves.{no, clash, none_some, other_one, page_at, dropped, put_at, cell_at, further, settled, wrote_here, wrote_there, fell, page_put, commit_it, MayGo, may_take, take_it, may_go, refused_stands, refused, attempt_it, begin_it}
+use Rattle.moving.proofs.Moves.{no, clash, none_some, other_one, page_at, dropped, put_at, cell_at, further, wrote_here, wrote_there, fell, page_put, commit_it, MayGo, may_take, take_it, may_go, refused_stands, refused, attempt_it, begin_it, running_same}
 use Rattle.moving.proofs.Scans.{clear, push_copying, push_paused, skip_copying, stop_it, go_again}
-use Rattle.moving.proofs.Letters.{more_both, link, took, sent, hear, untold, running_same, told_it, asked_here, asked_there}
+use Rattle.moving.proofs.Letters.{more_both, link, took, sent, hear, untold, told_it, asked_here, asked_there}
 
 pub is_true : (b : Bool) → T b → b ≡ true
 is_true true t = refl
@@ -53,10 +54,6 @@ goes (writes p ws r l s g) h = goes g (wrote_whole p ws r h)
 pub goes_fell : {w v : World} → Goes w v → v.fell ≡ w.fell
 goes_fell (rest w) = refl
 goes_fell (writes p ws r l s g) = goes_fell g
-
-pub goes_lost : {w v : World} → Goes w v → v.lost ≡ w.lost
-goes_lost (rest w) = refl
-goes_lost (writes p ws r l s g) = goes_lost g
 
 -- A FALL
 abbrev pub fallen_to : (ℕ → List ℕ) → (ℕ → Bool) → World → World
@@ -126,7 +123,7 @@ pub may_resume : (w : World) → MayGo (seen w) → MayResume w
 may_resume w g = (g.0, g.1, g.2, elim g.3 [ inl e ↦ inl (last_here w e) | inr e ↦ inr (holds e) ])
 
 -- COMMIT, PUT, BEGIN, ATTEMPT, SCAN
-pub commit_whole : {i m : ℕ} {x : List (List ℕ)} {n o : Node} {w : World} (z : Pause) → n.state ≡ Paused z → length z.transfer.window.pages ≡ 0 → z.transfer.cursor ≡ w.pages → Whole i m x n o w → Whole i m x (settled z.transfer.attempt n) o (kept 2 z.transfer.attempt w)
+pub commit_whole : {i m : ℕ} {x : List (List ℕ)} {n o : Node} {w : World} (z : Pause) → n.state ≡ Paused z → length z.transfer.window.pages ≡ 0 → z.transfer.cursor ≡ w.pages → Whole i m x n o w → Whole i m x (commits z.transfer.attempt n) o (kept 2 z.transfer.attempt w)
 commit_whole {w = w} z e len cur h = own_whole (cell_at 2 z.transfer.attempt (me w)) h (commit_it z e len cur h.both)
 
 pub put_whole : {i m : ℕ} {x : List (List ℕ)} {n o : Node} {w : World} (l : List ℕ) (r : Reception) → In l x (me w) → kind_of l ≡ 2 → n.state ≡ Receiving r → attempt_of l ≡ r.attempt → place_of l ≡ r.next → Whole i m x n o w → Whole i m x (on_state (Receiving (further r)) n) o (put_page (page_of l) (words_of l) w)

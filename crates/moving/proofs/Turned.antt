@@ -1,7 +1,10 @@
 -- How a turn begins and ends.
 -- Assumes nothing.
 use Rattle.std.proofs.Common.{◌≡◌, ℕ, ◌-◌, ◌%◌, ◌<◌, ◌≤◌, Bool, true, false, cond, ◌&&◌, eqb, ltb, leb, List, [], Some, None, Option, sym, refl, ap, ◌∙◌, subst, arith, eqb-true, eq-eqb, ne_eqb, lt-ltb, le-ltb}
+use Rattle.moving.proofs.Calms.{goes_turn}
+use Rattle.std.proofs.lemmas.Option.{same_Some}
 use borrow.Author.Tests.{eqb-false}
+use mathlib.Core.Path.{subst⁻¹}
 use Rattle.std.proofs.lemmas.Bool.{leb-true, leb-false}
 use Rattle.letter.specs.declared.Kind.TheVariants.{Ack, Refuse, Taken}
 use Rattle.letter.specs.Words.{spelt}
@@ -14,11 +17,9 @@ use Rattle.moving.specs.Hosts.{World, Goes, rest, writes, Does, stands, put, me,
 use Rattle.moving.specs.Model as model
 use Rattle.moving.specs.Model.{woken, bare, Tidy, Rested, AskedWell, Windowed, on_state, silent, answer_in, took_or_not, moving, Enough}
 use Rattle.moving.specs.Invariant.{Whole, Both, View, Legit, NotReceiving, flip}
-use Rattle.moving.proofs.Moves.{clash, receiving_same}
+use Rattle.moving.proofs.Moves.{clash, receiving_same, none_some}
 use Rattle.moving.proofs.Letters.{wakes, woke, woke_committed, ack_legit, refuse_legit, taken_legit}
 use Rattle.moving.proofs.Steps.{seen}
-use Rattle.letter.specs.Words.{head}
-use Rattle.moving.specs.Calm.{Added, answer_head, reply_to, reply_of, SentIf}
 use Rattle.moving.proofs.Heard.{alone}
 
 -- CELLS stay while the guest writes
@@ -32,10 +33,6 @@ put_cell k h f i c e = go (eqb i k) refl
 goes_cell : {w v : World} → Goes w v → (i c : ℕ) → (v.host i).cell c ≡ (w.host i).cell c
 goes_cell (rest w) i c = refl
 goes_cell (writes {w} p ws t l e g) i c = goes_cell g i c ∙ put_cell w.last _ w.host i c refl
-
-goes_turn : {w v : World} → Goes w v → v.turn ≡ w.turn
-goes_turn (rest w) = refl
-goes_turn (writes p ws t l e g) = goes_turn g
 
 pub step_cell : {w v : World} → Does w w true v → (c : ℕ) → (me v).cell c ≡ (me w).cell c
 step_cell {w = w} (stands v e g) c = goes_cell g v.turn c ∙ ap (λ i. (w.host i).cell c) (goes_turn g)
@@ -57,11 +54,11 @@ hush h =
 pub hush_whole : {i m : ℕ} {x : List (List ℕ)} {n o : Node} {w : World} → Whole i m x n o w → Whole i m x (silent n) o w
 hush_whole h = alone h (hush h.both)
 
-some_answer : {a b : Answer} → ◌≡◌ {A = Option Answer} (Some a) (Some b) → a ≡ b
-some_answer e = cc
+abbrev pub asking : Option ℕ → Node → Node
+asking a n = record { me = n.me; awake = n.awake; took = n.took; top = n.top; committed = n.committed; asked = a; state = n.state }
 
-none_answer : {A : Type 0} {a : Answer} → ◌≡◌ {A = Option Answer} None (Some a) → A
-none_answer e = let z : ◌≡◌ {A = ℕ} 0 1 = cc in absurd (omega arith)
+pub hushed_whole : {i m : ℕ} {x : List (List ℕ)} {n o : Node} {w : World} (a : Option ℕ) → a ≡ None → Whole i m x n o w → Whole i m x (asking a n) o w
+hushed_whole {i = i} {m = m} {x = x} {n = n} {o = o} {w = w} a e h = subst⁻¹ (λ a. Whole i m x (asking a n) o w) e (hush_whole h)
 
 abbrev by_took : Bool → Answer
 by_took q = cond q (record { kind = Taken; place = 0 }) (record { kind = Refuse; place = 0 })
@@ -87,12 +84,12 @@ answer_legit {m = m} {n = n} {o = o} {w = w} t a aw own le e h = go n.state refl
         by false q = let k = leb-false t n.took q in let c = copies.0 in refuse_legit (spelt (bare Refuse t 0)) refl mine low nr (omega arith) h.both
 
     go : (s : State) → n.state ≡ s → answer_in s t n.took ≡ Some a → Legit m (spelt (bare a.kind t a.place)) o n (flip (seen w))
-    go Away f k = or_not a (λ r q. clash (sym f ∙ q) tt) (some_answer k)
-    go (Running x) f k = or_not a (λ r q. clash (sym f ∙ q) tt) (some_answer k)
-    go (Copying x) f k = none_answer k
-    go (Paused x) f k = none_answer k
-    go (Committed x) f k = none_answer k
-    go (Receiving x) f k = by (eqb x.attempt t) refl (some_answer k)
+    go Away f k = or_not a (λ r q. clash (sym f ∙ q) tt) (same_Some _ _ k)
+    go (Running x) f k = or_not a (λ r q. clash (sym f ∙ q) tt) (same_Some _ _ k)
+    go (Copying x) f k = none_some k
+    go (Paused x) f k = none_some k
+    go (Committed x) f k = none_some k
+    go (Receiving x) f k = by (eqb x.attempt t) refl (same_Some _ _ k)
       where
         by : (q : Bool) → eqb x.attempt t ≡ q → cond q (record { kind = Ack; place = x.next }) (took_or_not t n.took) ≡ a → Legit m (spelt (bare a.kind t a.place)) o n (flip (seen w))
         by true q z = subst (λ c. Legit m (spelt (bare c.kind t c.place)) o n (flip (seen w))) z (ack_legit (spelt (bare Ack t x.next)) x f refl (sym (eqb-true x.attempt t q)) refl h.both)
@@ -120,7 +117,3 @@ woken_is n {a = a} {b = b} {c = c} {x = x} {y = y} {z = z} e p q r s k =
     ap (λ u. record { me = n.me; awake = true; took = a; top = b; committed = c; asked = n.asked; state = u }) k
     ∙ ap (λ v. model.woke v b c n) p ∙ ap (λ v. model.woke x v c n) q ∙ ap (λ v. model.woke x y v n) r
     ∙ ap (λ v. cond v n (model.woke x y z n)) (sym e)
-
--- WHAT THE OTHER GETS TO HEAR
-pub replied : {w v : World} (n : Node) (t : ℕ) (a : Answer) → n.asked ≡ Some t → Some a ≡ answer_in n.state t n.took → Added (head a.kind t a.place 0) w v → SentIf (reply_of n) w v
-replied {w = w} {v = v} n t a e f s = subst (λ b. SentIf (reply_to b n) w v) (sym e) (subst (λ b. SentIf (answer_head t b) w v) f s)

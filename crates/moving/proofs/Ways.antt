@@ -1,6 +1,6 @@
 -- A way through a function: what was done so far, one more thing done, and how it ends.
 -- Assumes nothing.
-use Rattle.std.proofs.Common.{◌≡◌, ℕ, ◌+◌, ◌≤◌, Bool, true, false, not, List, [], ◌∷◌, is_ok, is_err, IfOk, Ok, Err, Result, sym, refl, subst, arith}
+use Rattle.std.proofs.Common.{◌≡◌, ℕ, ◌+◌, ◌≤◌, Bool, true, false, not, List, [], ◌∷◌, is_ok, is_err, IfOk, OnOk, Ok, Err, Result, sym, refl, subst, arith}
 use borrow.Author.Tests.{both_ways, not-true}
 use Rattle.moving.specs.declared.Down.{Down}
 use Rattle.moving.specs.declared.Node.{Node}
@@ -71,6 +71,11 @@ pub ends_tail : {A : Type 0} {x y : List (List ℕ)} {n m : Node} {f : A → Nod
 ends_tail {r = Ok r} j s g q = record { whole = λ i z o h. more_whole (omega arith) (g.whole i _ o (s.whole i z o h)) }
 ends_tail {r = Err r} j s g q = record { whole = λ i z o h. more_whole (omega arith) (g.whole i _ o (s.whole i z o h)) }
 
+-- what two clauses say of it says a third
+pub on_both : {A P Q R : Type 0} (r : Result A Down) → (P → Q → R) → OnOk r P → OnOk r Q → OnOk r R
+on_both (Ok a) f p q = f p q
+on_both (Err e) f p q = tt
+
 -- LETTERS
 pub got : {x : List (List ℕ)} {n m : Node} {w v t : World} {k : ℕ} {b : Bool} {l : List ℕ} → SoFar x n w k [] m v → Gets v (Ok b) l t → SoFar x n w (k + 0) (in_hand b l) m t
 got s (gets d b l v g e) = then_ok 0 s e (gives_fell g) (λ i z o h. more_whole (omega arith) (gives_whole g h))
@@ -97,10 +102,6 @@ gotten {x = x} {n = n} {m = m} {w = w} {v = v} {k = k} b l e s = subst (λ b. So
 pub ready : {x y : List (List ℕ)} {n m : Node} {w v : World} {k c d : ℕ} → Ready c x n w → k + d ≤ c → SoFar x n w k y m v → Ready d y m v
 ready h p s =
     let q = h.room in record { i = h.i; m = _; o = h.o; room = omega arith; whole = s.whole h.i h.m h.o h.whole }
-
--- what was said, was said
-pub said : {A E : Type 0} {a b : A} → ◌≡◌ {A = Result A E} (Ok a) (Ok b) → a ≡ b
-said e = cc
 
 -- of a result that is an error nothing is claimed
 pub unmade : {A : Type 0} (r : Result A Down) (P : A → Type 0) → is_err r ≡ true → IfOk r P

@@ -1,4 +1,5 @@
--- What a function needs of the world before it asks, and how much of the turn it uses.
+-- What a function needs of the world before it asks, and how much of the turn it uses. (They are relations of two worlds, which the caller owns,
+-- so each function that asks says them itself.)
 -- Assumes nothing.
 use Rattle.std.specs.Prelude.{◌≡◌, ℕ, ◌+◌, ◌≤◌, Bool, true, false, not, ◌||◌}
 use Rattle.moving.specs.Hosts.{World}

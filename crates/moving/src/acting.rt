@@ -38,10 +38,7 @@ impl Transfer {
     fn follows_short_pass(&self) -> bool
         ensures { result ≡ short_before self.now.prev }
     {
-        match self.prev {
-            Some(turns) => turns <= LONG_PASS,
-            None => false,
-        }
+        self.prev.is_some_and(|turns| turns <= LONG_PASS)
     }
 }
 
@@ -86,7 +83,7 @@ impl Node {
         Ok(transfer)
     }
 
-    // The guest runs here: if it is to be moved, an attempt begins.
+    // The guest runs here: if it is to be moved, an attempt begins. (Here and below, w and most are no struct: a borrow in a struct would be in every clause.)
     fn run<P: Place>(&mut self, w: &mut P, x: Running, most: u32) -> Result<(), Down>
         requires soon { Soon most (P.world w.old) }
         requires tidy { Tidy (on_state (State.Running x) self.old) }
@@ -163,8 +160,7 @@ impl Node {
             mine: true,
             turns: 1,
         });
-        asks::tell(w, Kind::Commit, attempt, 0)?;
-        Ok(())
+        asks::tell(w, Kind::Commit, attempt, 0)
     }
 
     // It stands too long: the guest goes on here, and is copied on.
@@ -230,8 +226,7 @@ impl Node {
             turns: x.turns.saturating_add(1),
             ..x
         });
-        asks::tell(w, Kind::Commit, x.attempt, 0)?;
-        Ok(())
+        asks::tell(w, Kind::Commit, x.attempt, 0)
     }
 
     // What it does by itself, with so many asks at most.

@@ -18,10 +18,10 @@ impl State {
     fn may_begin(&self) -> bool
         ensures { result ≡ begins self.now }
     {
-        match self {
-            State::Away | State::Receiving(_) | State::Committed(_) => true,
-            _ => false,
-        }
+        matches!(
+            self,
+            State::Away | State::Receiving(_) | State::Committed(_)
+        )
     }
 }
 

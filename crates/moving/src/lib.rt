@@ -161,8 +161,7 @@ impl Node {
         let left = self.wake(w)?;
         let left = self.hear(w, left)?;
         self.act(w, left - 1)?;
-        self.reply(w)?;
-        Ok(())
+        self.reply(w)
     }
 }
 
@@ -173,7 +172,8 @@ pub fn node_is_small() -> bool
 }
 
 // THE FIRST PROMISE. Whatever the guest writes, whatever the line does, whichever host falls, and however long the guest stands still:
-// `resume`, `stop` and `put` are only asked for when they may be. (The nights are counted by hand, as in the promise with both parts, whose text is fixed.)
+// `resume`, `stop` and `put` are only asked for when they may be. (The nights are counted by hand, as in `nights`, the same loop over `Sky`, whose text is
+// fixed; it isn't proved yet, and comes into the crate with its proof.)
 pub fn safe_nights<W: Place + AnySky>(w: &mut W, many: u64)
     requires starts { AtStart (W.world w.old) }
     requires few { many < 281474976710656 }

@@ -26,7 +26,8 @@ impl Right {
         Ok(Right { attempt })
     }
 
-    // The other host has refused the attempt that is committed here: what says so is given up for the right.
+    // The other host has refused the attempt that is committed here: what says so is given up for the right. (This and `received` have one body and two types:
+    // the name says which state is given up, and a generic one would take any.)
     pub fn refused(x: Committed) -> Right
         ensures { result.attempt ≡ x.attempt }
     {

@@ -169,11 +169,10 @@ impl Transfer {
         ensures keeps { Carried 62 self.old (P.world w.old) result self.new (P.world w.new) }
     {
         asks::tell(w, Kind::Probe, self.attempt, 0)?;
-        if !self.window.is_empty() {
-            self.resend(w)?;
-            return Ok(());
+        if self.window.is_empty() {
+            self.scan(w, most - 1)
+        } else {
+            self.resend(w)
         }
-        self.scan(w, most - 1)?;
-        Ok(())
     }
 }

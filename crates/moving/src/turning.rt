@@ -92,15 +92,12 @@ impl Node {
         ensures line { OnOk result (SentIf (reply_of self.old) (P.world w.old) (P.world w.new)) }
         ensures keeps { Keeps 0 [] self.old (P.world w.old) result (λ _. self.new) (P.world w.new) }
     {
-        let asked = self.asked;
-        self.asked = None;
-        let Some(t) = asked else {
+        let Some(t) = self.asked.take() else {
             return Ok(());
         };
         let Some(answer) = self.state.answer(t, self.took) else {
             return Ok(());
         };
-        asks::tell(w, answer.kind, t, answer.place)?;
-        Ok(())
+        asks::tell(w, answer.kind, t, answer.place)
     }
 }

@@ -7,7 +7,7 @@ use Rattle.moving.specs.Over.{ActedOver}
 use Rattle.moving.specs.Calm.{HeardAll}
 use Rattle.moving.proofs.Steps.{more_whole}
 use Rattle.moving.proofs.Hearings.{heard_after}
-use Rattle.moving.proofs.Ways.{begin, then_call, ready, ends_ok, ends_call}
+use Rattle.moving.proofs.Ways.{begin, then_call, ready, on_both, ends_tail, ends_call}
 use Rattle.moving.proofs.Node.turn.Goals as goal
 
 pub returns-in_err-left-clause-keeps : goal.returns-in_err-left-clause-keeps
@@ -63,19 +63,6 @@ reply-requires-clause-ready g c =
     let u = then_call t a.used.fell a.keeps in
     ready c.requires.ready (omega arith) u
 
-pub returns-in_err-reply-clause-keeps : goal.returns-in_err-reply-clause-keeps
-returns-in_err-reply-clause-keeps g c =
-    let n = c.args.self.now in
-    let w = g.P.Place.world c.args.w.now in
-    let k = c.in_ok-left.ensures in
-    let s = then_call (begin [] n w c.requires.up) k.used.fell k.keeps in
-    let l = c.in_ok-left-2.ensures in
-    let t = then_call s l.used.fell l.keeps in
-    let a = c.in_ok-act.ensures in
-    let u = then_call t a.used.fell a.keeps in
-    let e = c.from_residual-in_err-reply.ensures.0 in
-    ends_call 64 _ c.from_residual-in_err-reply.result e u c.in_err-reply.ensures.keeps (omega arith)
-
 pub returns-clause-makes : goal.returns-clause-makes
 returns-clause-makes g c =
     let n = c.args.self.now in
@@ -85,8 +72,7 @@ returns-clause-makes g c =
     let l = c.in_ok-left-2.ensures in
     let t = then_call s l.used.fell l.keeps in
     let a = c.in_ok-act.ensures in
-    let y = c.in_ok-reply.ensures in
-    record {
+    on_both c.reply.result (λ line is. record {
       heard = c.hear.new.self;
       acted = c.act.new.self;
       quiet = g.P.Place.world c.hear.new.w;
@@ -97,11 +83,11 @@ returns-clause-makes g c =
       hears = heard_after k.line (subst (λ p. HeardAll p (woken ((me w).cell 0) ((me w).cell 1) ((me w).cell 2) n) (g.P.Place.world c.wake.new.w) c.hear.new.self (g.P.Place.world c.hear.new.w)) k.used.pages (subst (λ z. HeardAll (g.P.Place.world c.wake.new.w).pages z (g.P.Place.world c.wake.new.w) c.hear.new.self (g.P.Place.world c.hear.new.w)) k.is l.line));
       cost = λ aw q. let f = k.full aw in let d = l.cost q in let e = ap length k.line.own in omega arith;
       acts = subst (λ p. ActedOver p (c.in_ok-left-2.left - 1) (me (g.P.Place.world c.hear.new.w)).told c.hear.new.self.state (on_state Away c.hear.new.self) (g.P.Place.world c.hear.new.w) c.act.new.self (g.P.Place.world c.act.new.w)) (l.used.pages ∙ k.used.pages) a.makes;
-      replies = y.line;
-      node = y.is;
-      awake = ap (λ m. m.awake) y.is ∙ a.tidy.awake;
+      replies = line;
+      node = is;
+      awake = ap (λ m. m.awake) is ∙ a.tidy.awake;
       mid = λ i z o h. more_whole (omega arith) (t.whole i z o h);
-    }
+    }) c.reply.ensures.line c.reply.ensures.is
 
 pub returns-clause-keeps : goal.returns-clause-keeps
 returns-clause-keeps g c =
@@ -113,5 +99,4 @@ returns-clause-keeps g c =
     let t = then_call s l.used.fell l.keeps in
     let a = c.in_ok-act.ensures in
     let u = then_call t a.used.fell a.keeps in
-    let y = c.in_ok-reply.ensures in
-    ends_ok 64 (omega arith) (then_call u y.used.fell y.keeps)
+    ends_tail 64 u c.reply.ensures.keeps (omega arith)

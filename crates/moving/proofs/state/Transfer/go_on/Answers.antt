@@ -1,7 +1,7 @@
 use Rattle.std.proofs.Common.{sym, ◌∙◌, arith, eqb-true, length}
 use Rattle.moving.proofs.Passes.{went_on, asked_none}
 use Rattle.moving.proofs.Ways as ways
-use Rattle.moving.proofs.Ways.{SoFar, begin, then_call, posted, posts_ends, ends_ok, ends_call, unmade}
+use Rattle.moving.proofs.Ways.{on_both, ends_tail}
 use Rattle.moving.proofs.Carries.{probes, probes_err}
 use Rattle.moving.proofs.state.Transfer.go_on.Goals as goal
 
@@ -16,39 +16,25 @@ resend-requires-clause-ready g c =
     let r = c.requires.ready in
     record { n = r.n; has = r.has; ready = ways.ready r.ready (omega arith) (probes x r.n r.has c.requires.soon.up c.in_ok-tell.ensures.posts) }
 
-pub returns-in_err-resend-clause-keeps : goal.returns-in_err-resend-clause-keeps
-returns-in_err-resend-clause-keeps g c =
-    let x = c.args.self.now in
-    let e = c.from_residual-in_err-resend.ensures.0 in
-    λ n has. ends_call 62 _ c.from_residual-in_err-resend.result e (probes x n has c.requires.soon.up c.in_ok-tell.ensures.posts) (c.in_err-resend.ensures.keeps n has) (omega arith)
-
-pub returns-then-not-is_empty-clause-line : goal.returns-then-not-is_empty-clause-line
-returns-then-not-is_empty-clause-line g c = went_on c.in_ok-tell.ensures.line c.in_ok-tell.ensures.used.pages c.in_ok-resend.ensures.line c.in_ok-resend.ensures.asked
-
-pub returns-then-not-is_empty-clause-keeps : goal.returns-then-not-is_empty-clause-keeps
-returns-then-not-is_empty-clause-keeps g c =
-    let x = c.args.self.now in
-    λ n has. ends_ok 62 (omega arith) (then_call (probes x n has c.requires.soon.up c.in_ok-tell.ensures.posts) c.in_ok-resend.ensures.used.fell (c.in_ok-resend.ensures.keeps n has))
-
 pub scan-requires-clause-ready : goal.scan-requires-clause-ready
 scan-requires-clause-ready g c =
     let x = c.args.self.now in
     let r = c.requires.ready in
     record { n = r.n; has = r.has; ready = ways.ready r.ready (omega arith) (probes x r.n r.has c.requires.soon.up c.in_ok-tell.ensures.posts) }
 
-pub returns-in_err-scan-clause-keeps : goal.returns-in_err-scan-clause-keeps
-returns-in_err-scan-clause-keeps g c =
+pub returns-then-is_empty-clause-line : goal.returns-then-is_empty-clause-line
+returns-then-is_empty-clause-line g c =
     let x = c.args.self.now in
-    let e = c.from_residual-in_err-scan.ensures.0 in
-    λ n has. ends_call 62 _ c.from_residual-in_err-scan.result e (probes x n has c.requires.soon.up c.in_ok-tell.ensures.posts) (c.in_err-scan.ensures.keeps n has) (omega arith)
+    let z = eqb-true (length x.window.pages) 0 (sym c.is_empty.ensures.is ∙ c.if-is_empty.true) in
+    on_both c.scan.result (λ l a. went_on c.in_ok-tell.ensures.line c.in_ok-tell.ensures.used.pages l (λ q. a (asked_none x _ z q))) c.scan.ensures.line c.scan.ensures.asked
 
-pub returns-clause-line : goal.returns-clause-line
-returns-clause-line g c =
-    let x = c.args.self.now in
-    let z = eqb-true (length x.window.pages) 0 (sym c.is_empty.ensures.is ∙ c.if-not-is_empty.false) in
-    went_on c.in_ok-tell.ensures.line c.in_ok-tell.ensures.used.pages c.in_ok-scan.ensures.line (λ a. c.in_ok-scan.ensures.asked (asked_none x _ z a))
+pub returns-then-is_empty-clause-keeps : goal.returns-then-is_empty-clause-keeps
+returns-then-is_empty-clause-keeps g c =
+    λ n has. ends_tail 62 (probes c.args.self.now n has c.requires.soon.up c.in_ok-tell.ensures.posts) (c.scan.ensures.keeps n has) (omega arith)
 
-pub returns-clause-keeps : goal.returns-clause-keeps
-returns-clause-keeps g c =
-    let x = c.args.self.now in
-    λ n has. ends_ok 62 (omega arith) (then_call (probes x n has c.requires.soon.up c.in_ok-tell.ensures.posts) c.in_ok-scan.ensures.used.fell (c.in_ok-scan.ensures.keeps n has))
+pub returns-else-is_empty-clause-line : goal.returns-else-is_empty-clause-line
+returns-else-is_empty-clause-line g c = on_both c.resend.result (λ l a. went_on c.in_ok-tell.ensures.line c.in_ok-tell.ensures.used.pages l a) c.resend.ensures.line c.resend.ensures.asked
+
+pub returns-else-is_empty-clause-keeps : goal.returns-else-is_empty-clause-keeps
+returns-else-is_empty-clause-keeps g c =
+    λ n has. ends_tail 62 (probes c.args.self.now n has c.requires.soon.up c.in_ok-tell.ensures.posts) (c.resend.ensures.keeps n has) (omega arith)

@@ -1,5 +1,5 @@
 use Rattle.std.proofs.Common.{◌≡◌, ◌+◌, ◌-◌, true, false, ◌||◌, [], sym, refl, ap, ◌∙◌, subst, subst₂, arith, rules, length}
-use Rattle.std.proofs.lemmas.Bool.{cond-true, cond-false}
+use Rattle.std.proofs.lemmas.Bool.{cond-true, cond-false, or_left, or_right}
 use Rattle.pageset.specs.Member.{member}
 use Rattle.moving.specs.declared.state.Transfer.{Transfer}
 use Rattle.moving.specs.Hosts.{me}
@@ -13,7 +13,7 @@ use Rattle.moving.proofs.Calms.{calm_self}
 use Rattle.moving.proofs.Passes.{passed_look, asked_still, asked_sent}
 use Rattle.moving.proofs.Scans.{clear}
 use Rattle.moving.proofs.Ways.{SoFar, begin, fine, then_ok, then_call, ends_ok, ends_err_own, ends_call, unmade}
-use Rattle.moving.proofs.Carries.{pushed_by, push_carrying, skip_carrying, pushed_below, carries_has, carry_twice, or_left, or_right, skip_unsent, below_more, or_true, grown}
+use Rattle.moving.proofs.Carries.{pushed_by, push_carrying, skip_carrying, pushed_below, carries_has, carry_twice, skip_unsent, below_more, or_true, grown}
 use Rattle.moving.proofs.state.Transfer.look.Goals as goal
 use Rattle.moving.proofs.state.Transfer.look.Goals.{else-not-touched-via-then-not-touched+else-not-unsent, else-not-touched-via-else-not-touched}
 
@@ -110,7 +110,7 @@ returns g c =
     let x = c.args.self.now in
     let d : Transfer = record { attempt = x.attempt; window = c.push-place.new.self; unsent = c.remove.new.self; cursor = x.cursor + 1; sent = c.saturating_add-self.result; turns = x.turns; prev = x.prev } in
     let p : Pushed x d x.cursor = pushed_by x d c.requires.below refl c.push-place.ensures.is c.remove.ensures in
-    let some : (c.in_ok-touched.touched || c.has-unsent.result) ≡ true = elim c.else-not-touched.branch [ else-not-touched-via-then-not-touched+else-not-unsent w ↦ or_right _ w.if-not-unsent.false | else-not-touched-via-else-not-touched w ↦ or_left _ w.if-not-touched.false ] in
+    let some : (c.in_ok-touched.touched || c.has-unsent.result) ≡ true = elim c.else-not-touched.branch [ else-not-touched-via-then-not-touched+else-not-unsent w ↦ or_right _ _ w.if-not-unsent.false | else-not-touched-via-else-not-touched w ↦ or_left _ _ w.if-not-touched.false ] in
     let u : due ((me w).touched x.cursor) x ≡ true = or_true _ _ _ _ c.in_ok-touched.ensures.value c.has-unsent.ensures.is some in
     let l : Looked ((me w).touched x.cursor) x d = record {
       attempt = refl;
