@@ -20,7 +20,7 @@ use Rattle.moving.specs.declared.state.State.{State}
 use Rattle.moving.specs.declared.state.State.TheVariants.{Away, Receiving, Running, Copying, Paused, Committed}
 use Rattle.moving.specs.Hosts.{World, kept, put_page, resumed, MayResume, Gets}
 use Rattle.moving.specs.Acted.{Heard, OneHeard, OneHeard.nothing, OneHeard.letter, Hears.more}
-use Rattle.moving.specs.Model.{on_state, on_top, runs_again, asked_for, begins, is_next, received, receives, taken, refused_in, acked, acked_in, gone_in, heeded, Windowed, Tidy}
+use Rattle.moving.specs.Model.{on_state, on_top, runs_again, asked_for, begins, is_next, received, receives, taken, refused_in, acked, acked_in, gone_in, heeded, Windowed, AskedWell, Tidy}
 use Rattle.moving.specs.Invariant.{View, Acked, slot, Legit, Side, Both, Whole}
 use Rattle.moving.proofs.Moves.{no, may_go, refused_paused, refused_copying}
 use Rattle.moving.proofs.Scans.{ack_copying, ack_paused}
@@ -44,8 +44,11 @@ reask t h =
 pub reask_whole : {i m : ℕ} {x : List (List ℕ)} {n o : Node} {w : World} (t : ℕ) → Whole i m x n o w → Whole i m x (asked_for t n) o w
 reask_whole t h = alone h (reask t h.both)
 
+pub asked_well : (n : Node) (t : ℕ) → t % 2 ≡ 1 - n.me → 1 ≤ t → t ≤ n.top → AskedWell (asked_for t n)
+asked_well n t a b c s e = subst (λ s. (s % 2 ≡ 1 - n.me) × (1 ≤ s) × (s ≤ n.top)) (same_Some _ _ e) (a, b, c)
+
 pub asked_tidy : (n : Node) (t : ℕ) → n.awake ≡ true → Windowed n.state → t % 2 ≡ 1 - n.me → 1 ≤ t → t ≤ n.top → Tidy (asked_for t n)
-asked_tidy n t aw w a b c = record { awake = aw; windowed = w; asked = λ s e. subst (λ s. (s % 2 ≡ 1 - n.me) × (1 ≤ s) × (s ≤ n.top)) (same_Some _ _ e) (a, b, c) }
+asked_tidy n t aw w a b c = record { awake = aw; windowed = w; asked = asked_well n t a b c }
 
 -- PROBE
 -- a host that begins no attempt of the other has the guest
@@ -81,10 +84,14 @@ probe_top {n = n} {w = w} l k aw h e = go (begins n.state) refl
 pub probe_none_tidy : {i m : ℕ} {n o : Node} {w : World} (l : Letter) → (begins n.state ≡ true → l.attempt ≤ n.top) → l.kind ≡ Probe → Whole i m (spelt l ∷ []) n o w → Tidy n → Tidy (asked_for l.attempt n)
 probe_none_tidy {n = n} l e k h t = let w = probe_own l k h in asked_tidy n l.attempt t.awake t.windowed w.0 w.1 (probe_top l k t.awake h e)
 
-pub probe_tidy : {i m : ℕ} {n o : Node} {w : World} (l : Letter) → l.kind ≡ Probe → n.awake ≡ true → Whole i m (spelt l ∷ []) n o w → Tidy (asked_for l.attempt (on_top l.attempt (Receiving (record { attempt = l.attempt; next = 0 })) n))
-probe_tidy {n = n} l k aw h =
+-- whether it is awake or not
+pub probe_asked : {i m : ℕ} {n o : Node} {w : World} (l : Letter) → l.kind ≡ Probe → Whole i m (spelt l ∷ []) n o w → AskedWell (asked_for l.attempt (on_top l.attempt (Receiving (record { attempt = l.attempt; next = 0 })) n))
+probe_asked {n = n} l k h =
     let w = probe_own l k h in
-    asked_tidy (on_top l.attempt (Receiving (record { attempt = l.attempt; next = 0 })) n) l.attempt aw tt w.0 w.1 (omega arith)
+    asked_well (on_top l.attempt (Receiving (record { attempt = l.attempt; next = 0 })) n) l.attempt w.0 w.1 (omega arith)
+
+pub probe_tidy : {i m : ℕ} {n o : Node} {w : World} (l : Letter) → l.kind ≡ Probe → n.awake ≡ true → Whole i m (spelt l ∷ []) n o w → Tidy (asked_for l.attempt (on_top l.attempt (Receiving (record { attempt = l.attempt; next = 0 })) n))
+probe_tidy l k aw h = record { awake = aw; windowed = tt; asked = probe_asked l k h }
 
 pub probe_whole : {i m : ℕ} {n o : Node} {w : World} (l : Letter) → n.top < l.attempt → l.kind ≡ Probe → n.awake ≡ true → Whole i m (spelt l ∷ []) n o w → Whole i m (spelt l ∷ []) (asked_for l.attempt (on_top l.attempt (Receiving (record { attempt = l.attempt; next = 0 })) n)) o (kept 1 l.attempt w)
 probe_whole {n = n} l g k aw h =

@@ -14,6 +14,13 @@ pub record Playing (n o : Node) (rounds : ℕ) (w : World) : Type 0 where
   pub few : rounds < 281474976710656
   pub whole : Whole 0 (128 * rounds) [] n o (seated 0 w)
 
+-- There are two nodes, and there is a number of rounds, with which that holds.
+pub record Plays (w : World) : Type 0 where
+  pub zero : Node
+  pub one : Node
+  pub rounds : ℕ
+  pub playing : Playing zero one rounds w
+
 -- A turn of host i begins: there is another node with which all is whole, and room for numbers to grow.
 pub record Begins (i : ℕ) (n : Node) (w : World) : Type 0 where
   pub up : w.fell ≡ false

@@ -6,7 +6,7 @@ ghost use Rattle.moving.specs.Hosts.{AtStart};
 ghost use Rattle.hosts.specs.Follows.{world_of, BetweenAs};
 ghost use Rattle.pair.specs.Worlds.{closed};
 ghost use Rattle.who.specs.Numbers.{numb};
-ghost use Rattle.rounds.specs.Plays.{Begins, Ends};
+ghost use Rattle.rounds.specs.Plays.{Plays, Begins, Ends};
 
 use hosts::Hosts;
 use moving::{Down, Node, Sky};
@@ -71,7 +71,8 @@ impl<'a> Play<'a> {
     // All begins: the guest runs on host 0.
     pub fn new(hosts: Hosts<'a>) -> Play<'a>
         requires { AtStart (world_of hosts) }
-        ensures { result ≡ hosts.entry }
+        ensures is { result ≡ hosts.entry }
+        ensures plays { Plays (world_of result) }
     {
         Play {
             hosts,
@@ -82,7 +83,9 @@ impl<'a> Play<'a> {
     }
 
     // A round: what is planned between rounds, and a turn of each host.
-    pub fn round(&mut self) -> Round {
+    pub fn round(&mut self) -> Round
+        ensures { Plays (world_of self.new) }
+    {
         if self.rounds >= 281474976710655 {
             return Round::Over;
         }
@@ -95,7 +98,8 @@ impl<'a> Play<'a> {
 
     // What is planned between rounds, without a round.
     pub fn between(&mut self)
-        ensures { BetweenAs self.old self.new }
+        ensures planned { BetweenAs self.old self.new }
+        ensures plays { Plays (world_of self.new) }
     {
         self.hosts.between();
     }
