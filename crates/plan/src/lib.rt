@@ -2,13 +2,14 @@
 // A plan says it: counts that its owner sets between rounds, and for random play a generator, whose word decides what comes with the next ask.
 #![tactic(auto)]
 
-ghost use Rattle.std.specs.Prelude.{◌≡◌, ℕ, ◌+◌, ◌-◌, ◌*◌, ◌/◌, ◌%◌, ◌<◌, ◌≤◌, Bool, true, false, cond, Option};
+ghost use Rattle.std.specs.Prelude.{◌≡◌, ◌&&◌, nat_le, ℕ, ◌+◌, ◌-◌, ◌*◌, ◌/◌, ◌%◌, ◌<◌, ◌≤◌, Bool, true, false, cond, Option};
 ghost use Rattle.plan.specs.Plans.{stepped, drawn, part_of, roll_of, falls_by, less, mix_by, hand_by, fall_of, fate_of, asked, post_of, posted, hand_of, handed, wreck_of, write_of, wish_of, wished, page_by, writes_of, wrote, calm};
 
 use side::{Mix, Post, Wreck};
 use who::Who;
 
 // Whether the generator decides too, and its word.
+// The two aren't one `Option`: the word is kept when play isn't random, and a fall leaves it in the pages.
 #[derive(Clone, Copy, Debug, PartialEq, Eq)]
 pub struct Chance {
     pub random: bool,
@@ -97,10 +98,7 @@ impl Chance {
         } else {
             self.word
         };
-        Chance {
-            random: self.random,
-            word,
-        }
+        Chance { word, ..self }
     }
 
     // What a part of the word says, in random play.
@@ -137,11 +135,11 @@ impl Chance {
         }
     }
 
-    // The page that the guest fills, if it writes.
-    fn page(self, writes: bool, pages: u32) -> Option<Write>
-        ensures { result ≡ page_by writes self.word pages }
+    // The page that the guest fills, if it writes: in random play, if a part of the word is that much at least.
+    fn fills(self, least: u32, pages: u32) -> Option<Write>
+        ensures { result ≡ page_by (self.random && nat_le least (part_of 65536 16 self.word)) self.word pages }
     {
-        if !writes {
+        if !self.roll(65536, 16).is_some_and(|n| n >= least) {
             return None;
         }
         let page = part(self.word, 1048576, 4096).checked_rem(pages)?;
@@ -159,7 +157,7 @@ impl Fall {
     {
         Fall {
             ask: self.ask.saturating_sub(1),
-            after: self.after,
+            ..self
         }
     }
 }
@@ -248,8 +246,7 @@ impl Plan {
     pub fn write_on(&self, pages: u32) -> Option<Write>
         ensures { result ≡ write_of self.now pages }
     {
-        let writes = self.chance.roll(65536, 16).is_some_and(|n| n >= 14);
-        self.chance.page(writes, pages)
+        self.chance.fills(14, pages)
     }
 
     // Between rounds: whether somebody wants the guest to be moved.
@@ -258,9 +255,7 @@ impl Plan {
         ensures left { self.new ≡ wished self.old }
     {
         self.chance = self.chance.draw();
-        let wish = self.wish || self.chance.roll(4096, 4) == Some(0);
-        self.wish = false;
-        wish
+        std::mem::take(&mut self.wish) || self.chance.roll(4096, 4) == Some(0)
     }
 
     // Between rounds: what the guest writes.
@@ -268,15 +263,6 @@ impl Plan {
         ensures write { result ≡ writes_of self.old pages }
         ensures left { self.new ≡ wrote self.old }
     {
-        match self.write {
-            Some(write) => {
-                self.write = None;
-                Some(write)
-            }
-            None => {
-                let writes = self.chance.roll(65536, 16).is_some_and(|n| n >= 8);
-                self.chance.page(writes, pages)
-            }
-        }
+        self.write.take().or_else(|| self.chance.fills(8, pages))
     }
 }
