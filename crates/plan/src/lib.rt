@@ -10,7 +10,7 @@ use who::Who;
 
 // Whether the generator decides too, and its word.
 // The two aren't one `Option`: the word is kept when play isn't random, and a fall leaves it in the pages.
-#[derive(Clone, Copy, Debug, PartialEq, Eq)]
+#[derive(Clone, Copy, Debug, Default, PartialEq, Eq)]
 pub struct Chance {
     pub random: bool,
     pub word: u64,
@@ -18,7 +18,7 @@ pub struct Chance {
 
 // A host falls over the n-th thing that it asks from here on, before or after that is done; 0: over none.
 // The count runs down to 0 and stays there, so 0 is its end, and an `Option` would have to become `None` by a rule of its own.
-#[derive(Clone, Copy, Debug, PartialEq, Eq)]
+#[derive(Clone, Copy, Debug, Default, PartialEq, Eq)]
 pub struct Fall {
     pub ask: u32,
     pub after: bool,
@@ -31,7 +31,7 @@ pub struct Write {
     pub word: u64,
 }
 
-#[derive(Clone, Copy, Debug, PartialEq, Eq)]
+#[derive(Clone, Copy, Debug, Default, PartialEq, Eq)]
 pub struct Plan {
     pub zero: Fall,
     pub one: Fall,
@@ -167,22 +167,7 @@ impl Plan {
     pub fn new() -> Plan
         ensures { result ≡ calm }
     {
-        let none = Fall {
-            ask: 0,
-            after: false,
-        };
-        Plan {
-            zero: none,
-            one: none,
-            lose: 0,
-            again: 0,
-            wish: false,
-            write: None,
-            chance: Chance {
-                random: false,
-                word: 0,
-            },
-        }
+        Plan::default()
     }
 
     // A host asks for something: what becomes of it.
