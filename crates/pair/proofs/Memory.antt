@@ -1,4 +1,4 @@
--- The guest's memory, saved page by page; and hosts on which nothing has happened.
+-- The guest's memory become another; and hosts on which nothing has happened.
 -- Assumes nothing.
 use Rattle.std.proofs.Common.{◌≡◌, ℕ, ◌≤◌, min, false, cond, eqb, List, [], length, get_or, take, refl, ap, ◌∙◌, inl, inr, arith}
 use Rattle.std.proofs.lemmas.Bool.{cases_lt, cond_both}

@@ -56,7 +56,7 @@ fn other(who: Who) -> Who
     }
 }
 
-// One of two.
+// The side of that host.
 fn pick<'x, 'a>(zero: &'x Side<'a>, one: &'x Side<'a>, who: Who) -> &'x Side<'a>
     ensures { result.now ≡ side_in who zero.now one.now }
 {
@@ -111,7 +111,7 @@ impl<'a> Pair<'a> {
         self.still < 32 && (self.calm as u64) < 256 + 8 * (self.count() as u64)
     }
 
-    // What is done to a host.
+    // Does `f` to that host's side.
     fn at<R, F: FnOnce(&mut Side<'a>) -> R>(&mut self, who: Who, f: F) -> R
         requires { FnOnceTakesAtMut F.FnOnce f (side_of who self.old) }
         ensures { (s : Side) × FnOnceReturnsAtMut F.FnOnce f (side_of who self.old) result s × (self.new ≡ with_side who self.old s) }

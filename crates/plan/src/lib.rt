@@ -2,14 +2,15 @@
 // A plan says it: counts that its owner sets between rounds, and for random play a generator, whose word decides what comes with the next ask.
 #![tactic(auto)]
 
-ghost use Rattle.std.specs.Prelude.{◌≡◌, ℕ, ◌+◌, ◌-◌, ◌*◌, ◌/◌, ◌%◌, ◌<◌, ◌≤◌, Bool, true, false, cond, Option};
+ghost use Rattle.std.specs.Prelude.{◌≡◌, ◌&&◌, nat_le, ℕ, ◌+◌, ◌-◌, ◌*◌, ◌/◌, ◌%◌, ◌<◌, ◌≤◌, Bool, true, false, cond, Option};
 ghost use Rattle.plan.specs.Plans.{stepped, drawn, part_of, roll_of, falls_by, less, mix_by, hand_by, fall_of, fate_of, asked, post_of, posted, hand_of, handed, wreck_of, write_of, wish_of, wished, page_by, writes_of, wrote, calm};
 
 use side::{Mix, Post, Wreck};
 use who::Who;
 
 // Whether the generator decides too, and its word.
-#[derive(Clone, Copy, Debug, PartialEq, Eq)]
+// The two aren't one `Option`: the word is kept when play isn't random, and a fall leaves it in the pages.
+#[derive(Clone, Copy, Debug, Default, PartialEq, Eq)]
 pub struct Chance {
     pub random: bool,
     pub word: u64,
@@ -17,7 +18,7 @@ pub struct Chance {
 
 // A host falls over the n-th thing that it asks from here on, before or after that is done; 0: over none.
 // The count runs down to 0 and stays there, so 0 is its end, and an `Option` would have to become `None` by a rule of its own.
-#[derive(Clone, Copy, Debug, PartialEq, Eq)]
+#[derive(Clone, Copy, Debug, Default, PartialEq, Eq)]
 pub struct Fall {
     pub ask: u32,
     pub after: bool,
@@ -30,7 +31,7 @@ pub struct Write {
     pub word: u64,
 }
 
-#[derive(Clone, Copy, Debug, PartialEq, Eq)]
+#[derive(Clone, Copy, Debug, Default, PartialEq, Eq)]
 pub struct Plan {
     pub zero: Fall,
     pub one: Fall,
@@ -97,10 +98,7 @@ impl Chance {
         } else {
             self.word
         };
-        Chance {
-            random: self.random,
-            word,
-        }
+        Chance { word, ..self }
     }
 
     // What a part of the word says, in random play.
@@ -137,11 +135,11 @@ impl Chance {
         }
     }
 
-    // The page that the guest fills, if it writes.
-    fn page(self, writes: bool, pages: u32) -> Option<Write>
-        ensures { result ≡ page_by writes self.word pages }
+    // The page that the guest fills, if it writes: in random play, if a part of the word is that much at least.
+    fn fills(self, least: u32, pages: u32) -> Option<Write>
+        ensures { result ≡ page_by (self.random && nat_le least (part_of 65536 16 self.word)) self.word pages }
     {
-        if !writes {
+        if !self.roll(65536, 16).is_some_and(|n| n >= least) {
             return None;
         }
         let page = part(self.word, 1048576, 4096).checked_rem(pages)?;
@@ -159,7 +157,7 @@ impl Fall {
     {
         Fall {
             ask: self.ask.saturating_sub(1),
-            after: self.after,
+            ..self
         }
     }
 }
@@ -169,22 +167,7 @@ impl Plan {
     pub fn new() -> Plan
         ensures { result ≡ calm }
     {
-        let none = Fall {
-            ask: 0,
-            after: false,
-        };
-        Plan {
-            zero: none,
-            one: none,
-            lose: 0,
-            again: 0,
-            wish: false,
-            write: None,
-            chance: Chance {
-                random: false,
-                word: 0,
-            },
-        }
+        Plan::default()
     }
 
     // A host asks for something: what becomes of it.
@@ -248,8 +231,7 @@ impl Plan {
     pub fn write_on(&self, pages: u32) -> Option<Write>
         ensures { result ≡ write_of self.now pages }
     {
-        let writes = self.chance.roll(65536, 16).is_some_and(|n| n >= 14);
-        self.chance.page(writes, pages)
+        self.chance.fills(14, pages)
     }
 
     // Between rounds: whether somebody wants the guest to be moved.
@@ -258,9 +240,7 @@ impl Plan {
         ensures left { self.new ≡ wished self.old }
     {
         self.chance = self.chance.draw();
-        let wish = self.wish || self.chance.roll(4096, 4) == Some(0);
-        self.wish = false;
-        wish
+        std::mem::take(&mut self.wish) || self.chance.roll(4096, 4) == Some(0)
     }
 
     // Between rounds: what the guest writes.
@@ -268,15 +248,6 @@ impl Plan {
         ensures write { result ≡ writes_of self.old pages }
         ensures left { self.new ≡ wrote self.old }
     {
-        match self.write {
-            Some(write) => {
-                self.write = None;
-                Some(write)
-            }
-            None => {
-                let writes = self.chance.roll(65536, 16).is_some_and(|n| n >= 8);
-                self.chance.page(writes, pages)
-            }
-        }
+        self.write.take().or_else(|| self.chance.fills(8, pages))
     }
 }

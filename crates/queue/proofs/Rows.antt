@@ -1,11 +1,11 @@
 -- The part of a list that begins at h and has at most c elements: how long it is, what stands in it, and what becomes of it.
 -- Assumes nothing.
-use Rattle.std.proofs.Common.{◌≡◌, ℕ, true, false, Some, None, slice_get, zero, suc, ◌+◌, ◌-◌, ◌<◌, ◌≤◌, min, List, [], ◌∷◌, ◌++◌, length, take, drop, set, sym, refl, ap, ◌∙◌, arith, length-drop, length-take}
+use Rattle.std.proofs.Common.{◌≡◌, ℕ, zero, suc, ◌+◌, ◌-◌, ◌<◌, ◌≤◌, min, List, [], ◌∷◌, ◌++◌, length, take, drop, set, sym, refl, ap, ◌∙◌, arith, length-drop, length-take}
 use Rattle.std.proofs.lemmas.List.{take_more_set, drop-set-add, drop_more, drop_min}
 use Rattle.std.proofs.Math.Seq.{paste, take-set-lt}
 use Rattle.std.proofs.lemmas.List.Edits.{take-paste}
 use Rattle.std.specs.List.{copy_within}
-use Rattle.moving.specs.Hosts.{head_is, rest'}
+use Rattle.moving.specs.Hosts.{rest'}
 
 pub row_length : {A : Type 0} (c h : ℕ) (xs : List A) → length (take c (drop h xs)) ≡ min c (length xs - h)
 row_length c h xs = simp (length-take, length-drop)
@@ -45,17 +45,6 @@ unfolding rest'
 row_rest xs h zero lt p = absurd (omega arith)
 row_rest xs h (suc c) lt p =
     ap (λ k. take k (drop (h + 1) xs)) (omega arith) ∙ ap (λ ys. rest' (take (suc c) ys)) (sym (drop_more xs h [] lt))
-
--- the first letter, or that there is none
-pub head_some : (r : List (List ℕ)) (l : List ℕ) → Some l ≡ slice_get r 0 → head_is r true l
-unfolding head_is
-head_some [] l e = cc
-head_some (x ∷ xs) l e = (refl, cc)
-
-pub head_none : (r : List (List ℕ)) (l : List ℕ) → None ≡ slice_get r 0 → head_is r false l
-unfolding head_is
-head_none [] l e = refl
-head_none (x ∷ xs) l e = cc
 
 -- where there is none, none is left
 pub none_rest : (r : List (List ℕ)) → length r ≤ 0 → r ≡ rest' r

@@ -154,9 +154,7 @@ impl<'a> Side<'a> {
         ensures turns { Turns 0 self.old (told_by false) self.new }
         ensures was { result ≡ self.old.told }
     {
-        let was = self.told;
-        self.told = false;
-        was
+        std::mem::take(&mut self.told)
     }
 
     pub fn tell(&mut self)
@@ -205,9 +203,7 @@ impl<'a> Side<'a> {
         ensures turns { Turns (p + 1) self.old (untouched_by p) self.new }
         ensures was { (n : ℕ) → p < n → result ≡ (host n self.old).touched p }
     {
-        let was = self.touched[p];
-        self.touched[p] = false;
-        was
+        std::mem::replace(&mut self.touched[p], false)
     }
 
     // Its pages hold one word throughout, and what it was told is gone.

@@ -10,24 +10,23 @@ use std::io;
 use who::Who;
 
 // A move: its rounds, and those at whose end the guest stood still.
-#[derive(Clone, Copy)]
+#[derive(Clone, Copy, Debug, PartialEq, Eq)]
 struct Took {
     rounds: u64,
     still: u64,
 }
 
-// A page of so many.
+// The page that a word falls on, of so many; 0 if there are none.
 fn spread(word: u64, pages: u32) -> u32 {
-    if pages == 0 {
-        return 0;
-    }
-    (word.wrapping_mul(7919) % pages as u64) as u32
+    word.wrapping_mul(7919)
+        .checked_rem(u64::from(pages))
+        .unwrap_or(0) as u32
 }
 
 // The guest fills so many pages, far from each other, and others than in the round before.
 fn write(play: &mut Play, writes: u32, round: u64) {
     for i in 0..writes {
-        let word = round.wrapping_mul(16).wrapping_add(i as u64);
+        let word = round.wrapping_mul(16).wrapping_add(u64::from(i));
         let page = spread(word, play.hosts.pages());
         play.hosts.plan.write = Some(Write { page, word });
         play.between();
@@ -36,24 +35,26 @@ fn write(play: &mut Play, writes: u32, round: u64) {
 
 // Moves the guest from host 0 to host 1, or tries to for 40,000 rounds.
 fn transfer(play: &mut Play, writes: u32) -> Took {
-    let mut took = Took {
-        rounds: 0,
-        still: 0,
-    };
+    let mut still: u64 = 0;
     play.hosts.plan.wish = true;
     play.between();
-    for _ in 0..40000u32 {
+    for round in 0..40000u64 {
         if let Guest::Runs(Who::One) = play.hosts.guest() {
-            break;
+            return Took {
+                rounds: round,
+                still,
+            };
         }
-        write(play, writes, took.rounds);
+        write(play, writes, round);
         play.round();
-        took.rounds = took.rounds.saturating_add(1);
         if let Guest::Stands(_) = play.hosts.guest() {
-            took.still = took.still.saturating_add(1);
+            still = still.saturating_add(1);
         }
     }
-    took
+    Took {
+        rounds: 40000,
+        still,
+    }
 }
 
 fn main(rt: HostRuntime) -> io::Result<()> {

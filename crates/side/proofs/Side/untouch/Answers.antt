@@ -11,6 +11,7 @@ returns-clause-turns c =
     record {
       size = search rules;
       is = λ n h le.
-          ap (λ f. host_of (host n s).page f (host n s).cell s.told (host n s).row (host n s).old)
-          (taken_put false n s.touched.now c.args.p false (omega arith) (omega arith));
+          rw c.replace.ensures.after
+          (ap (λ f. host_of (host n s).page f (host n s).cell s.told (host n s).row (host n s).old)
+          (taken_put false n s.touched.now c.args.p false (omega arith) (omega arith)));
     }
