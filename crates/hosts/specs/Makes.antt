@@ -52,3 +52,11 @@ abbrev pub guest_shown : Guest → List ℕ
 guest_shown (Runs h) = codes "runs " ++ decimal (numb h)
 guest_shown (Stands h) = codes "stands " ++ decimal (numb h)
 guest_shown (Lost h) = codes "lost " ++ decimal (numb h)
+
+-- How it is printed why hosts can't be made.
+abbrev pub reason : Refused → List ℕ
+reason NoPages = codes "the guest has no pages"
+reason ManyPages = codes "the guest has more than 4096 pages"
+reason ShortMemory = codes "there is less memory than pages"
+reason ShortRow = codes "there is no room for 64 letters that wait"
+reason ShortKept = codes "there is no room for 128 letters that are kept"

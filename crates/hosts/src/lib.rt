@@ -8,7 +8,7 @@ ghost use Rattle.plan.specs.declared.Plan.{Plan};
 ghost use Rattle.hosts.specs.Stories.{Story, story_of, noted};
 ghost use Rattle.pair.specs.Worlds.{world_of as pairWorld, closed};
 ghost use Rattle.plan.specs.Plans.{post_of, posted, hand_of, handed};
-ghost use Rattle.hosts.specs.Makes.{guest_shown, refusal_of, memory_of, row_of, kept_of, Made, guest_of, repeated};
+ghost use Rattle.hosts.specs.Makes.{reason, guest_shown, refusal_of, memory_of, row_of, kept_of, Made, guest_of, repeated};
 ghost use Rattle.hosts.specs.Follows.{world_of, PlannedAsBefore, event, Fell, fills, Follows, Plain, Tells, SentAs, sent_by, HandsOver, Hears, FallsHearing, wishes, BetweenAs, Began, Ended};
 
 pub mod log;
@@ -40,6 +40,8 @@ pub enum Refused {
 }
 
 impl fmt::Display for Refused {
+    ghost output = { λ refused. Some (reason refused) };
+
     fn fmt<W: fmt::Write>(&self, f: &mut fmt::Formatter<W>) -> fmt::Result {
         f.write_str(match self {
             Refused::NoPages => "the guest has no pages",

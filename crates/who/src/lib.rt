@@ -6,7 +6,7 @@ ghost use Rattle.who.specs.Numbers.{numb, Names};
 
 use std::fmt;
 
-#[derive(Clone, Copy, Debug, Eq, PartialEq)]
+#[derive(Clone, Copy, Debug, PartialEq, Eq)]
 pub enum Who {
     Zero,
     One,
@@ -58,14 +58,12 @@ impl fmt::Display for NoHost {
 #[cfg(test)]
 mod tests {
     use super::*;
-    use std::test::Fail;
 
     #[test]
-    fn numbers(rt: HostRuntime) -> Result<(), Fail> {
+    fn numbers(rt: HostRuntime) {
         assert_eq!(rt; Who::try_from(0), Ok(Who::Zero));
         assert_eq!(rt; Who::try_from(1), Ok(Who::One));
         assert_eq!(rt; Who::try_from(2), Err(NoHost(2)));
         assert_eq!(rt; u32::from(Who::One), 1);
-        Ok(())
     }
 }

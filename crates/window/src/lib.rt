@@ -104,7 +104,6 @@ impl Window {
 #[cfg(test)]
 mod tests {
     use super::*;
-    use std::test::Fail;
 
     #[test]
     fn slides(rt: HostRuntime) {
@@ -121,7 +120,7 @@ mod tests {
     }
 
     #[test]
-    fn fills(rt: HostRuntime) -> Result<(), Fail> {
+    fn fills(rt: HostRuntime) {
         let mut w = Window::new();
         assert!(rt; w.is_empty() && !w.is_full());
         for page in 0..62 {
@@ -131,6 +130,5 @@ mod tests {
         w.drop_first(62);
         assert!(rt; w.is_empty());
         assert_eq!(rt; w.base(), 62);
-        Ok(())
     }
 }

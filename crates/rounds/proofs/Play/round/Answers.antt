@@ -29,3 +29,21 @@ invariant_of-self c =
       few = omega arith;
       whole = closes (128 * (c.self.inside.rounds + 1)) (omega arith) c.end.ensures k;
     }
+
+pub returns : goal.returns
+returns c =
+    let p = c.self.invariant in
+    let h = c.turn.ensures.whole (128 * c.self.inside.rounds) c.self.inside.one (between_whole c.between.ensures.between p.whole) in
+    let k = c.turn-2.ensures.whole (128 * c.self.inside.rounds + 64) c.turn.new.node (next h) in
+    record {
+      zero = c.turn.new.node;
+      one = c.turn-2.new.node;
+      rounds = c.self.inside.rounds + 1;
+      playing = record {
+        up = ap (λ w. w.fell) c.end.ensures ∙ c.turn-2.ensures.up;
+        zero = c.turn.ensures.rested;
+        one = c.turn-2.ensures.rested;
+        few = omega arith;
+        whole = closes (128 * (c.self.inside.rounds + 1)) (omega arith) c.end.ensures k;
+      };
+    }
