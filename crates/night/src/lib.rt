@@ -68,15 +68,15 @@ impl Input {
 
 // A play, where and how it is told of, how many rounds it had, and whether the last one was late.
 #[derive(Drop)]
-struct Night<'a> {
-    rt: &'a HostRuntime,
+struct Night<'r, 'a> {
+    rt: &'r HostRuntime,
     telling: Telling,
     play: Play<'a>,
     rounds: u64,
     late: bool,
 }
 
-impl<'a> Night<'a> {
+impl<'r, 'a> Night<'r, 'a> {
     // What happened in a round, a line each.
     fn tell(&mut self) -> io::Result<()> {
         let rt = self.rt;
