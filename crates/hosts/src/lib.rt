@@ -3,7 +3,7 @@
 
 ghost use Rattle.std.specs.Result.{result_err};
 ghost use Rattle.std.specs.Prelude.{◌≡◌, ℕ, ◌<◌, ◌≤◌, Bool, true, false, cond, not, ◌&&◌, T, length, is_ok, Some, None, Ok, Err, MatchOption, MatchResult, nat_lt};
-ghost use Rattle.moving.specs.Hosts.{World, Does, Posts, Gets, Between, AtStart, InTime, Sends, me, kept, heard, put_page, untouched, stopped, resumed, counted, seated, renewed, rounded};
+ghost use Rattle.moving.specs.Hosts.{World, Does, Posts, Gets, Between, AtStart, InTime, Sends, me, kept, heard, put_page, untouched, stopped, resumed, counted, seated, renewed, roughened, rounded};
 ghost use Rattle.plan.specs.declared.Plan.{Plan};
 ghost use Rattle.hosts.specs.Stories.{Story, story_of, noted};
 ghost use Rattle.pair.specs.Worlds.{world_of as pairWorld, closed};
@@ -274,9 +274,18 @@ impl<'a> Hosts<'a> {
     {
         let post = self.plan.post();
         if !self.pair.post(letter, post) {
-            self.pair.roughen();
-            self.tell(What::Lose);
+            self.lose();
         }
+    }
+
+    // A letter of the host whose turn it is was lost on its way.
+    fn lose(&mut self)
+        ensures world { world_of self.new ≡ roughened (world_of self.old) }
+        ensures plan { self.new.plan ≡ self.old.plan }
+        ensures story { story_of self.new.log ≡ noted (event What.Lose (world_of self.old)) (story_of self.old.log) }
+    {
+        self.pair.roughen();
+        self.tell(What::Lose);
     }
 
     // A letter for the host whose turn it is, if it gets one.

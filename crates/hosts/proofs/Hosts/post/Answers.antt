@@ -1,6 +1,6 @@
 use Rattle.std.proofs.Common.{sym, ap, ◌∙◌, subst}
 use Rattle.std.proofs.lemmas.Bool.{cond-true, cond-false}
-use Rattle.moving.specs.Hosts.{Sends, roughened}
+use Rattle.moving.specs.Hosts.{Sends}
 use Rattle.hosts.specs.declared.log.What.TheVariants.{Lose}
 use Rattle.hosts.specs.Stories.{story_of, noted}
 use Rattle.hosts.specs.Follows.{world_of, event, sent_by, lose_told}
@@ -14,13 +14,12 @@ returns-then-not-post c =
     let l = c.args.letter.now in
     let p = c.if-not-post.ensures in
     let x = c.post-post.result in
-    let world = c.tell.ensures.same.0 ∙ c.roughen.ensures in
     record {
-      sends = subst (Sends w l) (sym world) (sends_lost w l _ p);
-      is = λ some. world ∙ post_lost x w l _ p some ∙ ap (λ x. sent_by x l w) c.post-post.ensures.post;
-      plan = c.tell.ensures.same.1 ∙ c.post-post.ensures.left;
+      sends = subst (Sends w l) (sym c.lose.ensures.world) (sends_lost w l _ p);
+      is = λ some. c.lose.ensures.world ∙ post_lost x w l _ p some ∙ ap (λ x. sent_by x l w) c.post-post.ensures.post;
+      plan = c.lose.ensures.plan ∙ c.post-post.ensures.left;
       story = λ some.
-          c.tell.ensures.story ∙ ap (λ v. noted (event Lose v) (story_of h.log)) (c.roughen.ensures ∙ ap roughened p.is)
+          c.lose.ensures.story ∙ ap (λ v. noted (event Lose v) (story_of h.log)) p.is
           ∙ sym (cond-true x.lost _ _ (lost x w l _ p some))
           ∙ ap (λ x. lose_told x.lost w (story_of h.log)) c.post-post.ensures.post;
     }

@@ -27,7 +27,7 @@ returns c =
       planned = λ some.
           let some_now = subst (λ v. 0 < v.pages) (sym begun.world) some in
           let story = sent.story some_now ∙ ap (λ p. lose_told (post_of p).lost (world_of m) (story_of m.log)) begun.plan
-              ∙ ap (λ v. lose_told (post_of (asked_now h)).lost v (story_of m.log)) begun.world ∙ ap (lose_told (post_of (asked_now h)).lost w) begun.story
+          ∙ ap (λ v. lose_told (post_of (asked_now h)).lost v (story_of m.log)) begun.world ∙ ap (lose_told (post_of (asked_now h)).lost w) begun.story
           in
           as_planned (sent.plan ∙ ap posted begun.plan) story
           (c.end.ensures h (sent_by (post_of (asked_now h)) l w) begun.up begun.fate

@@ -21,8 +21,7 @@ returns c =
     let is : xs ≡ take (room h) (side_of h.turn h).pages.now = c.pages.ensures.is ∙ ap (λ s. take n s.pages.now) c.side.ensures ∙ ap (λ k. take k (side_of h.turn h).pages.now) count in
     let here : (p : ℕ) → get_or xs p blank ≡ (me w).page p = λ p. ap (λ l. get_or l p blank) is ∙ ap (λ x. x.page p) (host_is h h.turn) in
     let truth : (p : ℕ) → get_or ys p blank ≡ w.truth p = λ p. ap (λ k. get_or (take k h.truth.now) p blank) count in
-    let len : length xs ≡ length ys = c.pages.ensures.len ∙ sym (simp length-take (omega arith)) in
-    (
+    let len : length xs ≡ length ys = c.pages.ensures.len ∙ sym (simp length-take (omega arith)) in (
       λ t p lt. sym (here p) ∙ ap (λ l. get_or l p blank) (same.0 t) ∙ truth p,
       λ all. same.1 (ext_get_or blank xs ys len (λ i lt. here i ∙ all i (omega arith) ∙ sym (truth i))),
     )
