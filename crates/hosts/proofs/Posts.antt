@@ -15,15 +15,22 @@ sends_taken w l v p = subst (Sends w l) (sym p.is) (takes p.o p.among)
 pub sends_lost : {a b : Bool} (w : World) (l : List ℕ) (v : World) → PostedIn a b (other w) w l false v → Sends w l (roughened v)
 sends_lost w l v p = subst (λ u. Sends w l (roughened u)) (sym p.is) (loses p.o p.among)
 
+-- it was lost just if it should be
+pub not_lost : (x : Post) (w : World) (l : List ℕ) (v : World) → PostedIn x.lost x.kept (other w) w l true v → x.lost ≡ false
+not_lost x w l v p = false_from_ne_true x.lost (λ e. true≢false (p.loses e))
+
+pub lost : (x : Post) (w : World) (l : List ℕ) (v : World) → PostedIn x.lost x.kept (other w) w l false v → 0 < w.pages → x.lost ≡ true
+lost x w l v p some = true_from_ne_false x.lost (λ e. false≢true (p.takes e some))
+
 pub post_taken : (x : Post) (w : World) (l : List ℕ) (v : World) → PostedIn x.lost x.kept (other w) w l true v → 0 < w.pages → v ≡ sent_by x l w
 post_taken x w l v p some =
     p.is ∙ ap (λ o. with_link (other w) (taken (w.host (other w)).row l) o w) (p.keeps some)
-    ∙ sym (cond-false x.lost _ _ (false_from_ne_true x.lost (λ e. true≢false (p.loses e))))
+    ∙ sym (cond-false x.lost _ _ (not_lost x w l v p))
 
 pub post_lost : (x : Post) (w : World) (l : List ℕ) (v : World) → PostedIn x.lost x.kept (other w) w l false v → 0 < w.pages → roughened v ≡ sent_by x l w
 post_lost x w l v p some =
     ap roughened p.is ∙ ap (λ o. roughened (with_link (other w) (w.host (other w)).row o w)) (p.keeps some)
-    ∙ sym (cond-true x.lost _ _ (true_from_ne_false x.lost (λ e. false≢true (p.takes e some))))
+    ∙ sym (cond-true x.lost _ _ (lost x w l v p some))
 
 -- what is sent when the ask was counted first
 pub sent_counted : (x : Post) (l : List ℕ) (w : World) → sent_by x l (counted w) ≡ counted (sent_by x l w)

@@ -6,7 +6,7 @@ use Rattle.who.specs.declared.Who.{Who}
 use Rattle.who.specs.declared.Who.TheVariants.{Zero, One}
 use Rattle.side.specs.Sides.{remembered}
 use Rattle.pair.specs.Worlds as pair
-use Rattle.pair.specs.Worlds.{FallenWith, mixed_in, wished}
+use Rattle.pair.specs.Worlds.{FallenWith, mixed_in, wished, Same}
 use Rattle.plan.specs.declared.Plan.{Plan}
 use Rattle.plan.specs.declared.Write.{Write}
 use Rattle.side.specs.declared.Post.{Post}
@@ -17,7 +17,7 @@ use Rattle.plan.specs.Plans as plans
 use Rattle.plan.specs.Plans.{fate_of, asked, wreck_of, write_of, post_of, posted, hand_of, handed, wish_of, writes_of}
 use Rattle.hosts.specs.declared.log.Event.{Event}
 use Rattle.hosts.specs.declared.log.What.{What}
-use Rattle.hosts.specs.declared.log.What.TheVariants.{Fall, Lost}
+use Rattle.hosts.specs.declared.log.What.TheVariants.{Resume, Wrong, Lose, Fall, Lost}
 use Rattle.hosts.specs.declared.Hosts.{Hosts}
 use Rattle.hosts.specs.Stories.{Story, story_of, noted}
 
@@ -76,6 +76,16 @@ Plain h d b g = Follows h d (asked_now h) (story_of h.log) b g
 abbrev pub Tells : What → Hosts → World → Bool → Hosts → Type 0
 Tells x h d b g = Follows h d (asked_now h) (noted (event x (world_of h)) (story_of h.log)) b g
 
+-- The guest was resumed, which is told; and that it's wrong, unless its memory was the same.
+abbrev pub resume_told : Bool → World → Story → Story
+resume_told same w s = cond same (noted (event Resume w) s) (noted (event Wrong w) (noted (event Resume w) s))
+
+-- The guest is resumed, which changes the world to d. If all pages there are what they were at the stop, that alone is told; if they aren't, it's told
+-- too that it's wrong.
+pub record Resumes (h : Hosts) (d : World) (b : Bool) (g : Hosts) : Type 0 where
+  pub right : Same (world_of h) → Follows h d (asked_now h) (resume_told true (world_of h) (story_of h.log)) b g
+  pub wrong : (Same (world_of h) → ⊥) → Follows h d (asked_now h) (resume_told false (world_of h) (story_of h.log)) b g
+
 -- A letter is sent, and is lost or taken, and kept or not.
 abbrev pub sent_by : Post → List ℕ → World → World
 sent_by x l w =
@@ -101,9 +111,13 @@ HandsOver x w (Some l) d = Hands x w true l d
 abbrev pub wishes : Bool → World → World
 wishes b w = cond (b && w.runs && not w.wish) (wished w) w
 
+-- A letter was sent; that it was lost, if it was, is told.
+abbrev pub lose_told : Bool → World → Story → Story
+lose_told lost w s = cond lost (noted (event Lose w) s) s
+
 -- A letter l is sent.
 abbrev pub SentAs : Hosts → List ℕ → Bool → Hosts → Type 0
-SentAs h l b g = Follows h (sent_by (post_of (asked_now h)) l (world_of h)) (posted (asked_now h)) (story_of h.log) b g
+SentAs h l b g = let x = post_of (asked_now h) in Follows h (sent_by x l (world_of h)) (posted (asked_now h)) (lose_told x.lost (world_of h) (story_of h.log)) b g
 
 -- A letter is asked for: b says whether there is one, and l is it.
 pub record Hears (h : Hosts) (b : Bool) (l : List ℕ) (ok : Bool) (g : Hosts) : Type 0 where

@@ -5,7 +5,7 @@ use Rattle.who.specs.declared.Who.{Who}
 use Rattle.who.specs.Numbers.{numb}
 use Rattle.hosts.specs.declared.log.Event.{Event}
 use Rattle.hosts.specs.declared.log.What.{What}
-use Rattle.hosts.specs.declared.log.What.TheVariants.{Stop, Resume, Fall, Lost}
+use Rattle.hosts.specs.declared.log.What.TheVariants.{Stop, Resume, Wrong, Lose, Fall, Lost}
 use Rattle.hosts.specs.declared.log.Log.{Log}
 
 -- What happened, in the order in which it did; for how much there is room; and how many things more happened when there was none.
@@ -29,5 +29,7 @@ noted e s =
 abbrev pub printed : What → Who → List ℕ
 printed Stop h = codes "stop " ++ decimal (numb h)
 printed Resume h = codes "resume " ++ decimal (numb h)
+printed Wrong h = codes "wrong"
+printed Lose h = codes "lose " ++ decimal (numb h)
 printed Fall h = codes "fall " ++ decimal (numb h)
 printed Lost h = codes "lost"

@@ -3,13 +3,13 @@
 
 ghost use Rattle.std.specs.Result.{result_err};
 ghost use Rattle.std.specs.Prelude.{◌≡◌, ℕ, ◌<◌, ◌≤◌, Bool, true, false, cond, not, ◌&&◌, T, length, is_ok, Some, None, Ok, Err, MatchOption, MatchResult, nat_lt};
-ghost use Rattle.moving.specs.Hosts.{World, Does, Posts, Gets, Between, AtStart, InTime, Sends, me, kept, heard, put_page, untouched, stopped, resumed, counted, seated, renewed, rounded};
+ghost use Rattle.moving.specs.Hosts.{World, Does, Posts, Gets, Between, AtStart, InTime, Sends, me, kept, heard, put_page, untouched, stopped, resumed, counted, seated, renewed, roughened, rounded};
 ghost use Rattle.plan.specs.declared.Plan.{Plan};
 ghost use Rattle.hosts.specs.Stories.{Story, story_of, noted};
 ghost use Rattle.pair.specs.Worlds.{world_of as pairWorld, closed};
 ghost use Rattle.plan.specs.Plans.{post_of, posted, hand_of, handed};
 ghost use Rattle.hosts.specs.Makes.{reason, guest_shown, refusal_of, memory_of, row_of, kept_of, Made, guest_of, repeated};
-ghost use Rattle.hosts.specs.Follows.{world_of, PlannedAsBefore, event, Fell, fills, Follows, Plain, Tells, SentAs, sent_by, HandsOver, Hears, FallsHearing, wishes, BetweenAs, Began, Ended};
+ghost use Rattle.hosts.specs.Follows.{world_of, PlannedAsBefore, event, Fell, fills, Follows, Plain, Tells, resume_told, Resumes, lose_told, SentAs, sent_by, HandsOver, Hears, FallsHearing, wishes, BetweenAs, Began, Ended};
 
 pub mod log;
 pub mod memory;
@@ -256,17 +256,38 @@ impl<'a> Hosts<'a> {
         self.log.note(Event { what, host });
     }
 
+    // The guest was resumed, and its memory was the same as at the stop, or it's wrong.
+    fn tell_resumed(&mut self, same: bool)
+        ensures same { (world_of self.new ≡ world_of self.old) × (self.new.plan ≡ self.old.plan) }
+        ensures story { story_of self.new.log ≡ resume_told same (world_of self.old) (story_of self.old.log) }
+    {
+        self.tell(What::Resume);
+        if !same {
+            self.tell(What::Wrong);
+        }
+    }
+
     // A letter to the other host.
     fn post(&mut self, letter: &[u64; 72])
         ensures sends { Sends (world_of self.old) letter.now (world_of self.new) }
         ensures is { 0 < (world_of self.old).pages → world_of self.new ≡ sent_by (post_of self.old.plan) letter.now (world_of self.old) }
         ensures plan { self.new.plan ≡ posted self.old.plan }
-        ensures story { story_of self.new.log ≡ story_of self.old.log }
+        ensures story { 0 < (world_of self.old).pages → story_of self.new.log ≡ lose_told (post_of self.old.plan).lost (world_of self.old) (story_of self.old.log) }
     {
         let post = self.plan.post();
         if !self.pair.post(letter, post) {
-            self.pair.roughen();
+            self.lose();
         }
+    }
+
+    // A letter of the host whose turn it is was lost on its way.
+    fn lose(&mut self)
+        ensures world { world_of self.new ≡ roughened (world_of self.old) }
+        ensures plan { self.new.plan ≡ self.old.plan }
+        ensures story { story_of self.new.log ≡ noted (event What.Lose (world_of self.old)) (story_of self.old.log) }
+    {
+        self.pair.roughen();
+        self.tell(What::Lose);
     }
 
     // A letter for the host whose turn it is, if it gets one.
@@ -391,11 +412,12 @@ impl<'a> Place for Hosts<'a> {
     fn resume(&mut self, x: u64) -> Result<(), Down>
         requires { 0 < (world_of self.old).left }
         ensures does { Does (world_of self.old) (resumed x (world_of self.old)) (is_ok result) (world_of self.new) }
-        ensures planned { Tells What.Resume self.old (resumed x (world_of self.old)) (is_ok result) self.new }
+        ensures planned { Resumes self.old (resumed x (world_of self.old)) (is_ok result) self.new }
     {
         let due = self.begin()?;
+        let same = self.pair.is_same();
         self.pair.resume(x);
-        self.tell(What::Resume);
+        self.tell_resumed(same);
         self.end(due)
     }
 

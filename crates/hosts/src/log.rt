@@ -11,6 +11,10 @@ pub enum What {
     Stop,
     // it was resumed
     Resume,
+    // and its memory wasn't what it was at the stop
+    Wrong,
+    // a letter of the host was lost on its way
+    Lose,
     // the host fell
     Fall,
     // and the guest with it
@@ -23,7 +27,7 @@ pub struct Event {
     pub host: Who,
 }
 
-// What happened, and to which host; that the guest was lost follows the fall of its host, and is printed without it.
+// What happened, and to which host; that the guest was resumed wrongly or lost follows what happened to its host, and is printed without it.
 impl fmt::Display for Event {
     ghost output = { λ event. Some (printed event.what event.host) };
 
@@ -31,6 +35,8 @@ impl fmt::Display for Event {
         match self.what {
             What::Stop => write!(f, "stop {}", self.host),
             What::Resume => write!(f, "resume {}", self.host),
+            What::Wrong => write!(f, "wrong"),
+            What::Lose => write!(f, "lose {}", self.host),
             What::Fall => write!(f, "fall {}", self.host),
             What::Lost => write!(f, "lost"),
         }

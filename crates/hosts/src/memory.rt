@@ -6,7 +6,7 @@ use super::{Hosts, Lent, Refused};
 use crate::log::{Event, What};
 use who::Who;
 
-// Memory for one host, with twice as much for letters as it needs.
+// Memory for one host, with twice as much for letters as it needs: what is lent as a `Lent`.
 #[derive(Drop)]
 pub struct Room<const PAGES: usize> {
     pub pages: [[u64; 64]; PAGES],
@@ -16,13 +16,13 @@ pub struct Room<const PAGES: usize> {
 }
 
 // Memory for two hosts and a guest with up to so many pages, and for all that is told of a round: it has 512 asks, and of each are told
-// three things at most. `empty_memory!` makes it.
+// four things at most. `empty_memory!` makes it.
 #[derive(Drop)]
 pub struct Memory<const PAGES: usize> {
     pub zero: Room<PAGES>,
     pub one: Room<PAGES>,
     pub truth: [[u64; 64]; PAGES],
-    pub events: [Event; 1536],
+    pub events: [Event; 2048],
 }
 
 pub const NOTHING: Event = Event {
@@ -48,7 +48,7 @@ macro_rules! empty_memory {
                 kept: [[0; 72]; 256],
             },
             truth: [[0; 64]; $pages],
-            events: [$crate::memory::NOTHING; 1536],
+            events: [$crate::memory::NOTHING; 2048],
         }
     };
 }
@@ -76,7 +76,7 @@ impl<const PAGES: usize> Room<PAGES> {
 impl<const PAGES: usize> Memory<PAGES> {
     // Two hosts in it, and a guest with so many pages.
     pub fn hosts(&mut self, pages: u32) -> Result<Hosts<'_>, Refused>
-        ensures made { MatchResult result (λ h. Made pages 1536 h) (λ e. Some e ≡ refusal_of pages PAGES 128 256) }
+        ensures made { MatchResult result (λ h. Made pages 2048 h) (λ e. Some e ≡ refusal_of pages PAGES 128 256) }
         ensures unless { refusal_of pages PAGES 128 256 ≡ None → is_ok result ≡ true }
     {
         let Memory {

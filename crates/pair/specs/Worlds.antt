@@ -80,6 +80,10 @@ with_truth t w = with_guest w.runs w.last w.lost t w.hurt w.wish w
 abbrev pub wished : World → World
 wished w = with_guest w.runs w.last w.lost w.truth w.hurt true (with_host w.last (host_of (w.host w.last).page (w.host w.last).touched (w.host w.last).cell true (w.host w.last).row (w.host w.last).old) w)
 
+-- On the host whose turn it is all pages are the guest's memory as it was when it last stopped.
+abbrev pub Same : World → Type 0
+Same w = (p : ℕ) → p < w.pages → (me w).page p ≡ w.truth p
+
 -- A round has ended; the counts of calm rounds go up to 2^32 - 1.
 abbrev pub closed : World → World
 closed w =

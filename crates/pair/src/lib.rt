@@ -1,18 +1,19 @@
 // Two hosts in memory and the guest that runs on one of them or on none: each thing that can be done to them, and nothing done unasked.
 #![tactic(auto)]
 
-ghost use Rattle.std.specs.Prelude.{◌≡◌, ℕ, ◌+◌, ◌-◌, ◌%◌, ◌<◌, ◌≤◌, min, Bool, true, false, ltb, List, [], length, if◌then◌else◌, nat_lt, is_some, option_copied, slice_get};
+ghost use Rattle.std.specs.Prelude.{◌≡◌, ℕ, ◌+◌, ◌-◌, ◌%◌, ◌<◌, ◌≤◌, min, Bool, true, false, ltb, List, [], length, if◌then◌else◌, nat_lt, is_some, Decides, option_copied, slice_get};
 ghost use mathlib.Core.List.{Memᴰ};
 ghost use Rattle.moving.specs.Hosts.{World, kept, heard, put_page, untouched, stopped, resumed, counted, AtStart, InTime, wrote, me, other, seated, renewed, roughened};
 ghost use Rattle.std.specs.Fn.{FnOnceTakesAtMut, FnOnceReturnsAtMut};
 ghost use Rattle.side.specs.declared.Side.{Side};
 ghost use Rattle.who.specs.Numbers.{numb};
 ghost use Rattle.side.specs.Sides.{size_of, Fresh};
-ghost use Rattle.pair.specs.Worlds.{side_in, side_of, with_side, room, world_of, DroppedWith, FallenWith, PostedIn, NextIn, mixed_in, wished, closed};
+ghost use Rattle.pair.specs.Worlds.{side_in, side_of, with_side, room, world_of, DroppedWith, FallenWith, PostedIn, NextIn, mixed_in, wished, Same, closed};
 
 use side::{Mix, Post, Side, Wreck};
 use who::Who;
 
+// runs, lost, hurt and the other flags and counts: one field for each of `World`, so that each method is one definition of it.
 #[derive(Drop)]
 pub struct Pair<'a> {
     pages: u32,
@@ -211,6 +212,14 @@ impl<'a> Pair<'a> {
         truth.copy_from_slice(pick(&self.zero, &self.one, last).pages(n));
         self.runs = false;
         self.hurt = false;
+    }
+
+    // Whether all pages of the host whose turn it is are what the guest's memory was when it last stopped.
+    pub fn is_same(&self) -> bool
+        ensures { Decides result (Same (world_of self.now)) }
+    {
+        let n = self.count() as usize;
+        self.side(self.turn).pages(n) == &self.truth[..n]
     }
 
     // It goes on here, and cell 0 is x.
