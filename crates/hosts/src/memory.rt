@@ -30,7 +30,7 @@ pub const NOTHING: Event = Event {
     host: Who::Zero,
 };
 
-// A `Memory` of so many pages, made where it is to stand. What a function gives is copied, and a stack has no room for two of 4,096 pages.
+// A `Memory` of so many pages, made where it is to stand. (Both rooms are written out: a macro that calls a macro would be no plainer.) What a function gives is copied, and a stack has no room for two of 4,096 pages.
 #[macro_export]
 macro_rules! empty_memory {
     ($pages:expr) => {

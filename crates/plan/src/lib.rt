@@ -170,7 +170,7 @@ impl Plan {
         Plan::default()
     }
 
-    // A host asks for something: what becomes of it.
+    // A host asks for something: what becomes of it. (zero and one are fields that a caller sets by name; here, and in `fall`, a host's is picked.)
     pub fn ask(&mut self, who: Who) -> Fate
         ensures fate { result ≡ fate_of who self.old }
         ensures left { self.new ≡ asked who self.old }
