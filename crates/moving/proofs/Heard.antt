@@ -10,7 +10,7 @@ use Rattle.letter.specs.declared.Kind.TheVariants.{Probe, Page, Commit, Ack, Ref
 use Rattle.letter.specs.declared.Letter.{Letter}
 use Rattle.letter.specs.Words.{number, spelt, letter_of}
 use Rattle.letter.proofs.Spell.{written_read}
-use Rattle.window.specs.Pages.{Sound, dropped}
+use Rattle.window.specs.Pages.{dropped}
 use Rattle.moving.specs.declared.Node.{Node}
 use Rattle.moving.specs.declared.state.Transfer.{Transfer}
 use Rattle.moving.specs.declared.state.Receiving.{Receiving as Reception}
@@ -20,7 +20,7 @@ use Rattle.moving.specs.declared.state.State.{State}
 use Rattle.moving.specs.declared.state.State.TheVariants.{Away, Receiving, Running, Copying, Paused, Committed}
 use Rattle.moving.specs.Hosts.{World, kept, put_page, resumed, MayResume, Gets}
 use Rattle.moving.specs.Acted.{Heard, OneHeard, OneHeard.nothing, OneHeard.letter, Hears.more}
-use Rattle.moving.specs.Model.{on_state, on_top, runs_again, asked_for, begins, is_next, received, receives, taken, refused_in, acked, acked_in, gone_in, heeded, Windowed, AskedWell, Tidy}
+use Rattle.moving.specs.Model.{on_state, on_top, runs_again, asked_for, begins, is_next, received, receives, taken, refused_in, acked_in, gone_in, heeded, Windowed, AskedWell, Tidy}
 use Rattle.moving.specs.Invariant.{View, Acked, slot, Legit, Side, Both, Whole}
 use Rattle.moving.proofs.Moves.{no, may_go, refused_paused, refused_copying}
 use Rattle.moving.proofs.Scans.{ack_copying, ack_paused}
@@ -153,10 +153,6 @@ receives_not t (Committed z) f = refl
 pub commit_none_is : (n : Node) (t : ℕ) → ((x : Reception) → n.state ≡ Receiving x → ⊥) → asked_for t n ≡ taken t n
 commit_none_is n t f = ap (λ b. asked_for t (cond b (runs_again t false n) n)) (sym (receives_not t n.state f))
 
--- the state changes, and it has no transfer
-pub tidy_to : (n : Node) (s : State) → Windowed s → Tidy n → Tidy (on_state s n)
-tidy_to n s w t = record { awake = t.awake; windowed = w; asked = t.asked }
-
 -- REFUSE
 pub refused_paused_whole : {i m : ℕ} {x : List (List ℕ)} {n o : Node} {w : World} (z : Pause) → n.state ≡ Paused z → n.awake ≡ true → Whole i m x n o w → MayResume w × Whole i m x (runs_again z.transfer.attempt true n) o (resumed z.transfer.attempt w)
 refused_paused_whole {w = w} z e aw h = (may_resume w (may_go (seen w) (h.both.ours.guest.paused z e)), went_whole z.transfer.attempt h (refused_paused z e aw h.both))
@@ -206,35 +202,6 @@ ack_test t s c e =
     let b = and_parts (eqb c.attempt t) (ltb c.window.base s) a.0 in
     (eqb-true c.attempt t b.0, ltb-true c.window.base s b.1, leb-true s (c.window.base + length c.window.pages) a.1)
 
-acked_sound : (t s : ℕ) (c : Transfer) → Sound c.window → Sound (acked t s c).window
-acked_sound t s c so = go (fits_ack t s c) refl
-  where
-    go : (b : Bool) → fits_ack t s c ≡ b → Sound (cond b (lessened s c) c).window
-    go true e =
-        let a = ack_test t s c e in
-        let p = a.1 in
-        let q = a.2 in
-        let l = length-drop (s - c.window.base) c.window.pages in
-        let r = so.room in
-        let b = so.places in
-        record { room = omega arith; places = omega arith }
-    go false e = so
-
-acked_attempt : (t s : ℕ) (c : Transfer) → (acked t s c).attempt ≡ c.attempt
-acked_attempt t s c = go (fits_ack t s c)
-  where
-    go : (b : Bool) → (cond b (lessened s c) c).attempt ≡ c.attempt
-    go true = refl
-    go false = refl
-
-acked_windowed : (t p : ℕ) (s : State) → Windowed s → Windowed (acked_in t p s)
-acked_windowed t p Away w = tt
-acked_windowed t p (Receiving r) w = tt
-acked_windowed t p (Running r) w = tt
-acked_windowed t p (Copying c) w = acked_sound t p c w
-acked_windowed t p (Paused z) w = (acked_sound t p z.transfer w.0, w.1 ∙ sym (acked_attempt t p z.transfer))
-acked_windowed t p (Committed z) w = tt
-
 ack_at : {i m : ℕ} {n o : Node} {w : World} (l : Letter) → l.kind ≡ Ack → Whole i m (spelt l ∷ []) n o w → Whole i m (spelt l ∷ []) (on_state (acked_in l.attempt l.place n.state) n) o w
 ack_at {i = i} {m = m} {n = n} {o = o} {w = w} l k h = go n.state refl
   where
@@ -263,9 +230,6 @@ ack_at {i = i} {m = m} {n = n} {o = o} {w = w} l k h = go n.state refl
 
 pub ack_whole : {i m : ℕ} {n o : Node} {w : World} (l : Letter) (s : State) → s ≡ acked_in l.attempt l.place n.state → l.kind ≡ Ack → Whole i m (spelt l ∷ []) n o w → Whole i m (spelt l ∷ []) (on_state s n) o w
 ack_whole {i = i} {m = m} {n = n} {o = o} {w = w} l s e k h = subst⁻¹ (λ s. Whole i m (spelt l ∷ []) (on_state s n) o w) e (ack_at l k h)
-
-pub ack_tidy : (n : Node) (l : Letter) (s : State) → s ≡ acked_in l.attempt l.place n.state → Tidy n → Tidy (on_state s n)
-ack_tidy n l s e t = tidy_to n s (subst⁻¹ Windowed e (acked_windowed l.attempt l.place n.state t.windowed)) t
 
 -- TAKEN
 pub gone_whole : {i m : ℕ} {n o : Node} {w : World} (l : Letter) (z : Commitment) → n.state ≡ Committed z → z.attempt ≡ l.attempt → l.kind ≡ Taken → Whole i m (spelt l ∷ []) n o w → Whole i m (spelt l ∷ []) (on_state Away n) o w

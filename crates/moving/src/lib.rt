@@ -15,6 +15,7 @@ ghost use Rattle.moving.specs.Over.{TurnedOver};
 pub struct Down;
 
 // What a host may ask, for itself; it may fall over each. A guest that runs goes on writing meanwhile.
+// (The text of this trait, of `Sky`, of the heads of `Node::new` and `turn` and of `one_truth` is fixed: docs/DECISIONS.md.)
 pub trait Place {
     ghost world: { Self → World };
 
@@ -202,7 +203,7 @@ pub fn safe_nights<W: Place + AnySky>(w: &mut W, many: u64)
     }
 }
 
-// What is promised beside, each a theorem that a contract names.
+// What is promised beside, each a theorem that a contract names. (It gives a number since its text is fixed.)
 pub fn one_truth() -> u8
     ensures { (OneTruth) × (LostStays) }
 {

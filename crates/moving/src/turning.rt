@@ -11,7 +11,7 @@ use super::{Down, Node, Place, asks};
 use letter::Kind;
 
 // What is said to who asked: of which kind the letter is, and its place.
-#[derive(Clone, Copy)]
+#[derive(Clone, Copy, Debug, PartialEq, Eq)]
 pub struct Answer {
     pub kind: Kind,
     pub place: u64,

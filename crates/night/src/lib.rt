@@ -158,6 +158,7 @@ impl<'r, 'a> Night<'r, 'a> {
             Command::Move => return self.want(),
             Command::Round { rounds } => return self.rounds(rounds),
             Command::Write { page, word } => return self.write(Write { page, word }),
+            // (zero and one are fields that are set by name)
             Command::Fall { host, ask, after } => match host {
                 Who::Zero => self.play.hosts.plan.zero = Fall { ask, after },
                 Who::One => self.play.hosts.plan.one = Fall { ask, after },

@@ -112,7 +112,7 @@ impl<'a> Pair<'a> {
         self.still < 32 && (self.calm as u64) < 256 + 8 * (self.count() as u64)
     }
 
-    // Does `f` to that host's side.
+    // Does `f` to that host's side. (A method that gives the side itself, as a `&mut`, was tried: there is no proof of it.)
     fn at<R, F: FnOnce(&mut Side<'a>) -> R>(&mut self, who: Who, f: F) -> R
         requires { FnOnceTakesAtMut F.FnOnce f (side_of who self.old) }
         ensures { (s : Side) × FnOnceReturnsAtMut F.FnOnce f (side_of who self.old) result s × (self.new ≡ with_side who self.old s) }

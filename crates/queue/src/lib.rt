@@ -48,7 +48,7 @@ impl<'a> Queue<'a> {
         self.count.min(rest)
     }
 
-    // A letter at the end, if there is room for it.
+    // A letter at the end, if there is room for it. (That `room` stays is said by itself, here and below: it's another part of the struct.)
     pub fn push(&mut self, letter: &[u64; 72]) -> Result<(), Full>
         ensures { Pushed self.old letter.now (is_ok result) self.new }
     {

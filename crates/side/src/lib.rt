@@ -9,7 +9,8 @@ ghost use Rattle.side.specs.Sides.{blank, size_of, host, Turns, kept_by, told_by
 use queue::Queue;
 
 // Memory for one host: its pages, which of them were written, a row for 64 letters or more, and room for 128 letters or more that the line keeps.
-// With twice as much for letters less is moved about. Pages and flags are two slices, since a caller, also one in C, lends plain words and plain flags.
+// With twice as much for letters less is moved about. Pages and flags are two slices, so that the guest's pages
+// are copied and compared as one slice of words.
 #[derive(Drop)]
 pub struct Lent<'a> {
     pub pages: &'a mut [[u64; 64]],

@@ -28,7 +28,7 @@ impl Model for Window {
 }
 
 impl Window {
-    // No page, at place 0.
+    // No page, at place 0. (`Sound` stands in what this and other functions ensure: a caller sees of a window its value alone.)
     pub fn new() -> Window
         ensures pages { result.pages ≡ [] }
         ensures base { result.base ≡ 0 }
