@@ -5,26 +5,34 @@
 ghost use Rattle.std.specs.Prelude.{◌≡◌, ℕ, ◌+◌, ◌-◌, ◌^◌, ◌<◌, ◌≤◌, [], length, ◌==◌};
 ghost use Rattle.window.specs.Pages.{most, Sound, slot, pushed, dropped};
 
-use arrayvec::ArrayVec;
 use std::marker::Model;
 
 // The most pages that a window holds: `most` in the contracts.
 pub const CAPACITY: usize = 62;
 
-#[derive(Clone, Drop)]
+// The first `len` of `pages` are its pages, and behind these are noughts: so that what contracts see of it tells all of it, and it can be copied.
+#[derive(Clone, Copy)]
 pub struct Window {
-    pages: ArrayVec<u32, CAPACITY>,
+    pages: [u32; CAPACITY],
+    len: u64,
     base: u64,
 }
 
 impl Model for Window {
-    ghost use Rattle.window.specs.Pages.{Flying, Sound};
+    ghost use Rattle.window.specs.Pages.{Flying};
 
     ghost Value = { Flying };
 
-    ghost view = { λ w. record { base = w.base; pages = w.pages.items } };
+    ghost use Rattle.std.specs.Prelude.{take};
+    ghost use Rattle.window.specs.Padding.{WellKept, padded, padded_again};
 
-    ghost invariant = { λ w. Sound (record { base = w.base; pages = w.pages.items }) };
+    ghost view = { λ w. record { base = w.base; pages = take w.len w.pages } };
+
+    ghost invariant = { WellKept };
+
+    ghost inverse = { padded };
+
+    ghost inverse_ok = { padded_again };
 }
 
 impl Window {
@@ -35,7 +43,8 @@ impl Window {
         ensures sound { Sound result }
     {
         Window {
-            pages: ArrayVec::new(),
+            pages: [0; CAPACITY],
+            len: 0,
             base: 0,
         }
     }
@@ -52,20 +61,20 @@ impl Window {
         ensures is { result ≡ length self.now.pages }
         ensures sound { Sound self.now }
     {
-        self.pages.len() as u64
+        self.len
     }
 
     pub fn is_empty(&self) -> bool
         ensures is { result ≡ (length self.now.pages == 0) }
         ensures sound { Sound self.now }
     {
-        self.pages.is_empty()
+        self.len == 0
     }
 
     pub fn is_full(&self) -> bool
         ensures { result ≡ (length self.now.pages == most) }
     {
-        self.pages.is_full()
+        self.len == CAPACITY as u64
     }
 
     // One page more, at the end. Returns its place.
@@ -76,8 +85,9 @@ impl Window {
         ensures is { self.new ≡ pushed page self.old }
         ensures sound { Sound self.new }
     {
-        let place = self.base + self.len();
-        self.pages.push(page);
+        let place = self.base + self.len;
+        self.pages[self.len as usize] = page;
+        self.len += 1;
         place
     }
 
@@ -87,7 +97,9 @@ impl Window {
         ensures is { self.new ≡ dropped k self.old }
         ensures sound { Sound self.new }
     {
-        self.pages.drain(..k as usize);
+        self.pages[..k as usize].fill(0);
+        self.pages.rotate_left(k as usize);
+        self.len -= k;
         self.base += k;
     }
 
