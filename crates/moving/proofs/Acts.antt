@@ -22,7 +22,7 @@ use Rattle.moving.specs.Invariant.{unsent, Whole, Keeps}
 use Rattle.moving.proofs.Scans.{recount_copying, recount_paused}
 use Rattle.moving.proofs.Letters.{recommit, recount_committed, commit_legit}
 use Rattle.moving.proofs.Steps.{more_whole, commit_whole, attempt_whole, again_whole, stop_whole, told_whole, untold_whole}
-use Rattle.moving.proofs.Ways.{SoFar, begin, fine, then_so, posts_ends, ends_tail}
+use Rattle.moving.proofs.Ways.{SoFar, begin, fine, then_so, posted, posts_ends, ends_tail}
 use Rattle.moving.proofs.Heard.{alone, put_back}
 
 -- TOLD
@@ -40,6 +40,10 @@ again_so {w = w} n z t up = then_so 0 (begin [] (on_state (Committed z) n) w up)
 
 pub tells_ends : {A : Type 0} {n m : Node} {w v t : World} {k : ℕ} (j : ℕ) (z : Commitment) (f : A → Node) (r : Result A Down) → k ≤ j → ((a : A) → r ≡ Ok a → f a ≡ m) → m.state ≡ Committed z → SoFar [] n w k [] m v → Posts v (spelt (bare Commit z.attempt 0)) (is_ok r) t → Keeps j [] n w r f t
 tells_ends j z f r q e d s p = posts_ends j f r q e s (λ i x o h. commit_legit (spelt (bare Commit z.attempt 0)) z d refl refl h.both) p
+
+-- the same, where more is asked after it
+pub tells : {n m : Node} {w v t : World} {k : ℕ} (z : Commitment) → m.state ≡ Committed z → SoFar [] n w k [] m v → Posts v (spelt (bare Commit z.attempt 0)) true t → SoFar [] n w (k + 0) [] m t
+tells z e s p = posted s (λ i x o h. commit_legit (spelt (bare Commit z.attempt 0)) z e refl refl h.both) p
 
 -- COMMIT
 pub settle_whole : {i m : ℕ} {x : List (List ℕ)} {o : Node} {w : World} (n : Node) (z : Pause) → z.right.attempt ≡ z.transfer.attempt → length z.transfer.window.pages ≡ 0 → z.transfer.cursor ≡ w.pages → Whole i m x (on_state (Paused z) n) o w → Whole i m x (commits z.transfer.attempt n) o (kept 2 z.right.attempt w)

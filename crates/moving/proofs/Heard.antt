@@ -1,6 +1,6 @@
 -- What a letter makes of a node: all stays whole, and what holds of the node alone.
 -- Assumes nothing.
-use Rattle.std.proofs.Common.{◌≡◌, ℕ, ◌+◌, ◌-◌, ◌%◌, ◌<◌, ◌≤◌, Bool, true, false, cond, ◌&&◌, eqb, ltb, leb, List, [], ◌∷◌, ◌++◌, length, Some, Ok, sym, refl, ap, ◌∙◌, subst, subst₂, inl, inr, arith, ltb-true, eqb-true, leb-true}
+use Rattle.std.proofs.Common.{◌≡◌, ℕ, ◌+◌, ◌-◌, ◌%◌, ◌<◌, ◌≤◌, Bool, true, false, cond, ◌&&◌, eqb, ltb, leb, List, [], ◌∷◌, ◌++◌, length, Some, Ok, sym, refl, ap, ◌∙◌, subst, subst₂, inl, inr, arith, ltb-true, eqb-true, leb-true, Result, Err, is_ok, is_err}
 use Rattle.std.proofs.lemmas.Option.{same_Some}
 use Rattle.std.proofs.lemmas.List.{length-drop, get_or-drop}
 use mathlib.Core.Path.{subst⁻¹}
@@ -11,6 +11,7 @@ use Rattle.letter.specs.declared.Letter.{Letter}
 use Rattle.letter.specs.Words.{number, spelt, letter_of}
 use Rattle.letter.proofs.Spell.{written_read}
 use Rattle.window.specs.Pages.{dropped}
+use Rattle.moving.specs.declared.Down.{Down}
 use Rattle.moving.specs.declared.Node.{Node}
 use Rattle.moving.specs.declared.state.Transfer.{Transfer}
 use Rattle.moving.specs.declared.state.Receiving.{Receiving as Reception}
@@ -19,6 +20,7 @@ use Rattle.moving.specs.declared.state.Committed.{Committed as Commitment}
 use Rattle.moving.specs.declared.state.State.{State}
 use Rattle.moving.specs.declared.state.State.TheVariants.{Away, Receiving, Running, Copying, Paused, Committed}
 use Rattle.moving.specs.Hosts.{World, kept, put_page, resumed, MayResume, Gets}
+use Rattle.moving.specs.Used.{Used}
 use Rattle.moving.specs.Acted.{Heard, OneHeard, OneHeard.nothing, OneHeard.letter, Hears.more}
 use Rattle.moving.specs.Model.{on_state, on_top, runs_again, asked_for, begins, is_next, received, receives, taken, refused_in, acked_in, gone_in, heeded, Windowed, AskedWell, Tidy}
 use Rattle.moving.specs.Invariant.{View, Acked, slot, Legit, Side, Both, Whole}
@@ -49,6 +51,29 @@ asked_well n t a b c s e = subst (λ s. (s % 2 ≡ 1 - n.me) × (1 ≤ s) × (s 
 
 pub asked_tidy : (n : Node) (t : ℕ) → n.awake ≡ true → Windowed n.state → t % 2 ≡ 1 - n.me → 1 ≤ t → t ≤ n.top → Tidy (asked_for t n)
 asked_tidy n t aw w a b c = record { awake = aw; windowed = w; asked = asked_well n t a b c }
+
+-- the state changes, and it has no transfer
+pub tidy_to : (n : Node) (s : State) → Windowed s → Tidy n → Tidy (on_state s n)
+tidy_to n s w t = record { awake = t.awake; windowed = w; asked = t.asked }
+
+-- what the test of a page's letter says
+pub page_test : (x : Reception) (l : Letter) (q : ℕ) → ((eqb x.attempt l.attempt && eqb x.next l.place) && ltb l.page q) ≡ true → (x.attempt ≡ l.attempt) × (x.next ≡ l.place)
+page_test x l q e =
+    let a = (and_parts (eqb x.attempt l.attempt && eqb x.next l.place) (ltb l.page q) e).0 in
+    let b = and_parts (eqb x.attempt l.attempt) (eqb x.next l.place) a in
+    (eqb-true x.attempt l.attempt b.0, eqb-true x.next l.place b.1)
+
+-- what runs again has no transfer
+pub again_tidy : (n : Node) (t : ℕ) (b : Bool) (s : State) → Tidy (on_state s n) → Tidy (runs_again t b n)
+again_tidy n t b s h = record { awake = h.awake; windowed = tt; asked = h.asked }
+
+-- ASKS add up
+pub used_more : {a : ℕ} {w v : World} {b : Bool} (c : ℕ) → Used a w b v → a ≤ c → Used c w b v
+used_more c s p = record { left = omega arith; fell = s.fell; pages = s.pages; fall = s.fall; calm = s.calm; still = s.still }
+
+pub used_err : {A : Type 0} {a b : ℕ} {w v x : World} (c : ℕ) (r : Result A Down) → is_err r ≡ true → Used a w true v → Used b v false x → a + b ≤ c → Used c w (is_ok r) x
+used_err c (Ok y) e s t p = no e refl
+used_err c (Err y) e s t p = record { left = omega arith; fell = t.fell; pages = t.pages ∙ s.pages; fall = t.fall; calm = t.calm ∙ s.calm; still = t.still ∙ s.still }
 
 -- PROBE
 -- a host that begins no attempt of the other has the guest

@@ -35,7 +35,7 @@ none_left p q = p.own q ∙ ap rest' (none_there p q)
 pub hearing_self : (pages : ℕ) (n : Node) (w : World) → Hearing pages n w 0 n w
 hearing_self pages n w = record { calmly = calm_self w; rests = λ e. (e, refl); far = refl; more = λ q. refl; count = λ q. omega arith }
 
-hearing_then : {pages j k : ℕ} {n m l : Node} {w u v : World} → Hearing pages n w j m u → Hearing pages m u k l v → Hearing pages n w (j + k) l v
+pub hearing_then : {pages j k : ℕ} {n m l : Node} {w u v : World} → Hearing pages n w j m u → Hearing pages m u k l v → Hearing pages n w (j + k) l v
 hearing_then {w = w} {u = u} {v = v} a b =
     record {
       calmly = calm_then a.calmly b.calmly;

@@ -2,7 +2,7 @@
 -- Assumes nothing.
 use Rattle.std.proofs.Common.{◌≡◌, ℕ, ◌+◌, ◌<◌, ◌≤◌, min, Bool, true, false, cond, ◌&&◌, ◌||◌, leb, List, [], ◌∷◌, ◌++◌, length, take, sym, refl, ap, ◌∙◌, subst, inl, inr, arith}
 use Rattle.std.proofs.lemmas.Bool.{cases_lt, eq-eqb, ne_eqb, le-leb, lt-leb}
-use Rattle.std.proofs.lemmas.List.{take_more, length-take-le, nil_from_length}
+use Rattle.std.proofs.lemmas.List.{take_more, take_all, length-take-le, nil_from_length}
 use Rattle.letter.specs.declared.Kind.TheVariants.{Probe, Page}
 use Rattle.letter.specs.Words.{head}
 use Rattle.pageset.specs.Count.{bit, count, count_from}
@@ -151,6 +151,10 @@ asked_next x i {w = w} {v = v} m l d a q =
   where
     taken_length : (i : ℕ) (xs : List ℕ) → i ≤ length xs → length (take i xs) ≡ i
     taken_length i xs l = length-take-le i xs l
+
+-- all of it was sent once more
+pub asked_all : (x : Transfer) (i : ℕ) (w : World) → i ≡ length x.window.pages → AskedTo i x w → Asked x w
+asked_all x i w e a q = a q ∙ ap (λ (ps : List ℕ). head Probe x.attempt 0 0 ∷ page_heads x.attempt x.window.base ps) (take_all i x.window.pages (omega arith))
 
 -- a probe, into an empty row
 pub asked_first : (x : Transfer) {w v : World} → Added (head Probe x.attempt 0 0) w v → row_there w ≡ [] → AskedTo 0 x v

@@ -12,7 +12,7 @@ still_there (writes p ws r l s g) e = absurd (subst T e r)
 pub one_truth : OneTruth
 one_truth w v g e = still_there g e
 
-goes_lost : {w v : World} → Goes w v → v.lost ≡ w.lost
+pub goes_lost : {w v : World} → Goes w v → v.lost ≡ w.lost
 goes_lost (rest w) = refl
 goes_lost (writes p ws r l s g) = goes_lost g
 

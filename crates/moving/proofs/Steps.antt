@@ -55,6 +55,10 @@ pub goes_fell : {w v : World} → Goes w v → v.fell ≡ w.fell
 goes_fell (rest w) = refl
 goes_fell (writes p ws r l s g) = goes_fell g
 
+pub goes_wish : {w v : World} → Goes w v → v.wish ≡ w.wish
+goes_wish (rest w) = refl
+goes_wish (writes p ws r l s g) = goes_wish g
+
 -- A FALL
 abbrev pub fallen_to : (ℕ → List ℕ) → (ℕ → Bool) → World → World
 fallen_to page touched w =
@@ -83,6 +87,12 @@ pub step_err : {i m : ℕ} {x y : List (List ℕ)} {n l o : Node} {w d v : World
 step_err (falls_before v e f) u h k = fell_whole f (counted_whole h)
 step_err (falls_after v e f) u h k = fell_whole f (counted_whole k)
 step_err {w = w} (down t) u h k = absurd (both_ways w.fell u (is_true w.fell t))
+
+-- an ask that failed: who stood has fallen
+pub step_down : {w d v : World} → Does w d false v → w.fell ≡ false → v.fell ≡ true
+step_down (falls_before v e f) u = ap (λ w. w.fell) f.is
+step_down (falls_after v e f) u = ap (λ w. w.fell) f.is
+step_down {w = w} (down t) u = absurd (both_ways w.fell u (is_true w.fell t))
 
 pub step_up : {w d v : World} → Does w d true v → d.fell ≡ w.fell → v.fell ≡ false
 step_up (stands v e g) p = goes_fell g ∙ p ∙ e

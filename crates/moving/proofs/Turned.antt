@@ -1,6 +1,6 @@
 -- How a turn begins and ends.
 -- Assumes nothing.
-use Rattle.std.proofs.Common.{◌≡◌, ℕ, ◌-◌, ◌%◌, ◌<◌, ◌≤◌, Bool, true, false, cond, ◌&&◌, eqb, ltb, leb, List, [], Some, None, Option, sym, refl, ap, ◌∙◌, subst, arith, eqb-true, eq-eqb, ne_eqb, lt-ltb, le-ltb}
+use Rattle.std.proofs.Common.{◌≡◌, ℕ, ◌-◌, ◌%◌, ◌<◌, ◌≤◌, Bool, true, false, cond, ◌&&◌, eqb, ltb, leb, List, [], Some, None, Option, sym, refl, ap, ◌∙◌, subst, arith, eqb-true, eq-eqb, ne_eqb, lt-ltb, le-ltb, ◌⊎◌, inl, inr, ◌+◌, ◌*◌}
 use Rattle.moving.proofs.Calms.{goes_turn}
 use Rattle.std.proofs.lemmas.Option.{same_Some}
 use borrow.Author.Tests.{eqb-false}
@@ -21,6 +21,19 @@ use Rattle.moving.proofs.Moves.{clash, receiving_same, none_some}
 use Rattle.moving.proofs.Letters.{wakes, woke, woke_committed, ack_legit, refuse_legit, taken_legit}
 use Rattle.moving.proofs.Steps.{seen}
 use Rattle.moving.proofs.Heard.{alone}
+
+-- enough asks are left for what a node does by itself: all that a full window needs, or none is on its way
+pub enough_for : (s : State) (most : ℕ) → Windowed s → (127 ≤ most) ⊎ ((moving s ≡ None) × (3 ≤ most)) → Enough most s
+enough_for Away most w e = tt
+enough_for (Receiving x) most w e = tt
+enough_for (Running x) most w (inl e) = omega arith
+enough_for (Running x) most w (inr e) = e.1
+enough_for (Copying x) most w (inl e) = let r = w.room in omega arith
+enough_for (Copying x) most w (inr e) = none_some (sym e.0)
+enough_for (Paused x) most w (inl e) = let r = w.0.room in omega arith
+enough_for (Paused x) most w (inr e) = none_some (sym e.0)
+enough_for (Committed x) most w (inl e) = omega arith
+enough_for (Committed x) most w (inr e) = let q = e.1 in omega arith
 
 -- CELLS stay while the guest writes
 put_cell : (k : ℕ) (h : Rattle.moving.specs.Hosts.Host) (f : ℕ → Rattle.moving.specs.Hosts.Host) (i c : ℕ) → h.cell c ≡ (f k).cell c → (put k h f i).cell c ≡ (f i).cell c

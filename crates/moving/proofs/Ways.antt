@@ -71,6 +71,26 @@ pub ends_tail : {A : Type 0} {x y : List (List ℕ)} {n m : Node} {f : A → Nod
 ends_tail {r = Ok r} j s g q = record { whole = λ i z o h. more_whole (omega arith) (g.whole i _ o (s.whole i z o h)) }
 ends_tail {r = Err r} j s g q = record { whole = λ i z o h. more_whole (omega arith) (g.whole i _ o (s.whole i z o h)) }
 
+-- one ask, at whose answer the node changes
+pub one_ask : {A : Type 0} {x q : List (List ℕ)} {n l : Node} {w d t : World} (j c : ℕ) (f : A → Node) (r : Result A Down) → c ≤ j → w.fell ≡ false → d.fell ≡ w.fell → Does w d (is_ok r) t → Fine c x n w q l d → ((a : A) → r ≡ Ok a → f a ≡ l) → q ≡ [] → Keeps j x n w r f t
+one_ask {x = x} {q = q} {n = n} {l = l} {w = w} {t = t} j c f (Ok r) p u e g h k nil =
+    let s = then_ok c (begin x n w u) g e h in
+    record { whole = λ i z o a. more_whole {m = z + (0 + c)} (omega arith) (subst (λ b. Whole i (z + (0 + c)) [] b o t) (sym (k r refl)) (subst (λ y. Whole i (z + (0 + c)) y l o t) nil (s.whole i z o a))) }
+one_ask {x = x} {n = n} {w = w} j c f (Err r) p u e g h k nil = ends_err j c f (Err r) refl (omega arith) (begin x n w u) g h
+
+-- what needs less room is ready where more was
+pub less_ready : {x : List (List ℕ)} {n : Node} {w : World} {c d : ℕ} → d ≤ c → Ready c x n w → Ready d x n w
+less_ready p h = let q = h.room in record { i = h.i; m = h.m; o = h.o; room = omega arith; whole = h.whole }
+
+-- what was said, was said
+pub said : {A E : Type 0} {a b : A} → ◌≡◌ {A = Result A E} (Ok a) (Ok b) → a ≡ b
+said e = cc
+
+-- a result isn't both
+pub not_both : {A E B : Type 0} (r : Result A E) → is_err r ≡ true → is_ok r ≡ true → B
+not_both (Ok x) e f = absurd (both_ways false refl e)
+not_both (Err x) e f = absurd (both_ways false refl f)
+
 -- what two clauses say of it says a third
 pub on_both : {A P Q R : Type 0} (r : Result A Down) → (P → Q → R) → OnOk r P → OnOk r Q → OnOk r R
 on_both (Ok a) f p q = f p q

@@ -90,23 +90,16 @@ impl Node {
     {
         let t = l.attempt;
         self.asked = Some(t);
-        let state = std::mem::replace(&mut self.state, State::Away);
-        match state {
-            State::Receiving(x) => {
-                if x.attempt != t {
-                    self.state = State::Receiving(x);
-                    return Ok(());
-                }
-                Right::received(x).resume(w)?;
-                self.took = t;
-                self.state = State::Running(Running { wanted: false });
-                Ok(())
-            }
-            other => {
-                self.state = other;
-                Ok(())
-            }
+        let State::Receiving(x) = self.state else {
+            return Ok(());
+        };
+        if x.attempt != t {
+            return Ok(());
         }
+        Right::received(x).resume(w)?;
+        self.took = t;
+        self.state = State::Running(Running { wanted: false });
+        Ok(())
     }
 
     // The attempt that is committed here is refused: the guest goes on here, unless this host has fallen since.

@@ -7,7 +7,7 @@ use window::Window;
 // window: pages that were sent and aren't acknowledged. unsent: pages that were never sent in this attempt.
 // A pass looks at all pages in their order: cursor is the next; sent, how many it has sent; turns, how many turns it has had.
 // prev: the turns of the pass before, if one came before.
-#[derive(Clone, Drop)]
+#[derive(Clone, Copy)]
 pub struct Transfer {
     pub attempt: u64,
     pub window: Window,
@@ -19,8 +19,7 @@ pub struct Transfer {
 }
 
 // The pages of an attempt are put; next: the place of the next one.
-// It isn't copied by itself, so that who gives it up for a right has it no more.
-#[derive(Clone, Debug, Drop, PartialEq, Eq)]
+#[derive(Clone, Copy, Debug, PartialEq, Eq)]
 pub struct Receiving {
     pub attempt: u64,
     pub next: u64,
@@ -41,8 +40,7 @@ pub struct Paused {
 }
 
 // The attempt is committed; mine: this host hasn't fallen since, so that its pages are the guest's memory still.
-// It isn't copied by itself either.
-#[derive(Clone, Debug, Drop, PartialEq, Eq)]
+#[derive(Clone, Copy, Debug, PartialEq, Eq)]
 pub struct Committed {
     pub attempt: u64,
     pub mine: bool,
