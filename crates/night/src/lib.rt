@@ -1,10 +1,12 @@
 // Plays a script, read from standard input, on two hosts in memory with 32 pages, and prints what it asks for and what happens.
 #![tactic(auto)]
 
+ghost use Rattle.std.specs.Prelude.{◌≡◌};
+
 use hosts::log::What;
 use hosts::{Guest, empty_memory};
 use plan::{Chance, Fall, Write};
-use rounds::{Play, Round};
+use rounds::{Round, Simulation};
 use script::{Command, Line};
 use std::io;
 use std::io::Read;
@@ -71,21 +73,23 @@ impl Input {
 struct Night<'r, 'a> {
     rt: &'r HostRuntime,
     telling: Telling,
-    play: Play<'a>,
+    simulation: Simulation<'a>,
     rounds: u64,
     late: bool,
 }
 
 impl<'r, 'a> Night<'r, 'a> {
     // What happened in a round, a line each.
-    fn tell(&mut self) -> io::Result<()> {
+    fn tell(&mut self) -> io::Result<()>
+        ensures stays { (self.new.simulation.play ≡ self.old.simulation.play) × (self.new.late ≡ self.old.late) }
+    {
         let rt = self.rt;
         let all = self.telling == Telling::Trace;
         if all {
             let number = self.rounds;
             println!(rt; "round {number}")?;
         }
-        let log = &mut self.play.hosts.log;
+        let log = &mut self.simulation.hosts.log;
         for event in log.events() {
             if all || event.what != What::Lose {
                 println!(rt; "{event}")?;
@@ -102,7 +106,7 @@ impl<'r, 'a> Night<'r, 'a> {
     // A round, and what happened in it.
     fn round(&mut self) -> io::Result<()> {
         let was = self.late;
-        match self.play.round() {
+        match self.simulation.round() {
             Round::Fine => self.late = false,
             Round::Late => self.late = true,
             Round::Over => return Ok(()),
@@ -123,33 +127,37 @@ impl<'r, 'a> Night<'r, 'a> {
     }
 
     // Somebody wants the guest to be moved.
-    fn want(&mut self) -> io::Result<()> {
-        if !self.play.hosts.may_want() {
+    fn want(&mut self) -> io::Result<()>
+        ensures stays { (self.new.simulation.play ≡ self.old.simulation.play) × (self.new.late ≡ self.old.late) }
+    {
+        if !self.simulation.hosts.may_want() {
             return println!(self.rt; "no");
         }
-        self.play.hosts.plan.wish = true;
-        self.play.between();
+        self.simulation.hosts.plan.wish = true;
+        self.simulation.between();
         Ok(())
     }
 
     // The guest fills a page.
-    fn write(&mut self, write: Write) -> io::Result<()> {
-        let Guest::Runs(_) = self.play.hosts.guest() else {
+    fn write(&mut self, write: Write) -> io::Result<()>
+        ensures stays { (self.new.simulation.play ≡ self.old.simulation.play) × (self.new.late ≡ self.old.late) }
+    {
+        let Guest::Runs(_) = self.simulation.hosts.guest() else {
             return println!(self.rt; "no");
         };
-        self.play.hosts.plan.write = Some(write);
-        self.play.between();
+        self.simulation.hosts.plan.write = Some(write);
+        self.simulation.between();
         Ok(())
     }
 
     // So many rounds in which a generator decides what goes wrong.
     fn any(&mut self, seed: u64, many: u32) -> io::Result<()> {
-        self.play.hosts.plan.chance = Chance {
+        self.simulation.hosts.plan.chance = Chance {
             random: true,
             word: seed,
         };
         self.rounds(many)?;
-        self.play.hosts.plan.chance.random = false;
+        self.simulation.hosts.plan.chance.random = false;
         Ok(())
     }
 
@@ -160,14 +168,14 @@ impl<'r, 'a> Night<'r, 'a> {
             Command::Write { page, word } => return self.write(Write { page, word }),
             // (zero and one are fields that are set by name)
             Command::Fall { host, ask, after } => match host {
-                Who::Zero => self.play.hosts.plan.zero = Fall { ask, after },
-                Who::One => self.play.hosts.plan.one = Fall { ask, after },
+                Who::Zero => self.simulation.hosts.plan.zero = Fall { ask, after },
+                Who::One => self.simulation.hosts.plan.one = Fall { ask, after },
             },
-            Command::Lose { letter } => self.play.hosts.plan.lose = letter,
-            Command::Again => self.play.hosts.repeat(),
+            Command::Lose { letter } => self.simulation.hosts.plan.lose = letter,
+            Command::Again => self.simulation.hosts.repeat(),
             Command::Any { seed, rounds } => return self.any(seed, rounds),
             Command::Where => {
-                let guest = self.play.hosts.guest();
+                let guest = self.simulation.hosts.guest();
                 return println!(self.rt; "{guest}");
             }
             Command::Anew => {}
@@ -205,7 +213,7 @@ pub fn play(rt: &HostRuntime, telling: Telling) -> io::Result<()> {
         let mut night = Night {
             rt,
             telling,
-            play: Play::new(hosts),
+            simulation: Simulation::new(hosts),
             rounds: 0,
             late: false,
         };

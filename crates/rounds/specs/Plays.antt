@@ -5,21 +5,21 @@ use Rattle.moving.specs.declared.Node.{Node}
 use Rattle.moving.specs.Hosts.{World, seated}
 use Rattle.moving.specs.Model.{Rested}
 use Rattle.moving.specs.Invariant.{Whole}
+use Rattle.hosts.specs.declared.Hosts.{Hosts}
+use Rattle.rounds.specs.declared.Play.{Play}
 
--- Between rounds: nobody has fallen, and the nodes of both hosts and the world are whole, with numbers that have grown by 128 a round at most.
-pub record Playing (n o : Node) (rounds : ℕ) (w : World) : Type 0 where
+-- Between rounds: nobody has fallen, and the two nodes and the world are whole, with numbers that have grown by 128 a round at most.
+pub record Playing (p : Play) (w : World) : Type 0 where
   pub up : w.fell ≡ false
-  pub zero : Rested n
-  pub one : Rested o
-  pub few : rounds < 281474976710656
-  pub whole : Whole 0 (128 * rounds) [] n o (seated 0 w)
+  pub zero : Rested p.zero
+  pub one : Rested p.one
+  pub few : p.rounds < 281474976710656
+  pub whole : Whole 0 (128 * p.rounds) [] p.zero p.one (seated 0 w)
 
--- There are two nodes, and there is a number of rounds, with which that holds.
-pub record Plays (w : World) : Type 0 where
-  pub zero : Node
-  pub one : Node
-  pub rounds : ℕ
-  pub playing : Playing zero one rounds w
+-- What a simulation is to its callers: hosts, and a play on them.
+pub record Simulated : Type 0 where
+  pub hosts : Hosts
+  pub play : Play
 
 -- A turn of host i begins: there is another node with which all is whole, and room for numbers to grow.
 pub record Begins (i : ℕ) (n : Node) (w : World) : Type 0 where

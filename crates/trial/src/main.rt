@@ -2,10 +2,12 @@
 // the guest stood still: once with a guest that writes nothing, and once with one that writes 16 times a round.
 #![tactic(auto)]
 
+ghost use Rattle.std.specs.Prelude.{◌≡◌};
+
 use hosts::{Guest, empty_memory};
 use moving::Place;
 use plan::Write;
-use rounds::Play;
+use rounds::Simulation;
 use std::io;
 use who::Who;
 
@@ -23,31 +25,33 @@ fn spread(word: u64, pages: u32) -> u32 {
         .unwrap_or(0) as u32
 }
 
-// The guest fills so many pages, far from each other, and others than in the round before.
-fn write(play: &mut Play, writes: u32, round: u64) {
+// The guest fills so many pages, far from each other, and others than in the round before. No round is played.
+fn write(simulation: &mut Simulation, writes: u32, round: u64)
+    ensures stays { simulation.new.play ≡ simulation.old.play }
+{
     for i in 0..writes {
         let word = round.wrapping_mul(16).wrapping_add(u64::from(i));
-        let page = spread(word, play.hosts.pages());
-        play.hosts.plan.write = Some(Write { page, word });
-        play.between();
+        let page = spread(word, simulation.hosts.pages());
+        simulation.hosts.plan.write = Some(Write { page, word });
+        simulation.between();
     }
 }
 
 // Moves the guest from host 0 to host 1, or tries to for 40,000 rounds.
-fn transfer(play: &mut Play, writes: u32) -> Took {
+fn transfer(simulation: &mut Simulation, writes: u32) -> Took {
     let mut still: u64 = 0;
-    play.hosts.plan.wish = true;
-    play.between();
+    simulation.hosts.plan.wish = true;
+    simulation.between();
     for round in 0..40000u64 {
-        if let Guest::Runs(Who::One) = play.hosts.guest() {
+        if let Guest::Runs(Who::One) = simulation.hosts.guest() {
             return Took {
                 rounds: round,
                 still,
             };
         }
-        write(play, writes, round);
-        play.round();
-        if let Guest::Stands(_) = play.hosts.guest() {
+        write(simulation, writes, round);
+        simulation.round();
+        if let Guest::Stands(_) = simulation.hosts.guest() {
             still = still.saturating_add(1);
         }
     }
@@ -64,8 +68,8 @@ fn main(rt: HostRuntime) -> io::Result<()> {
             let Ok(hosts) = memory.hosts(pages) else {
                 return println!(rt; "no hosts");
             };
-            let mut play = Play::new(hosts);
-            let Took { rounds, still } = transfer(&mut play, writes);
+            let mut simulation = Simulation::new(hosts);
+            let Took { rounds, still } = transfer(&mut simulation, writes);
             println!(rt; "{pages} pages, {writes} writes a round: {rounds} rounds, {still} still")?;
         }
     }

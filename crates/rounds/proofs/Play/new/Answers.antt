@@ -7,9 +7,9 @@ use Rattle.moving.proofs.Rounds.{fresh_rested}
 use Rattle.hosts.specs.Follows.{world_of}
 use Rattle.rounds.proofs.Play.new.Goals as goal
 
-pub invariant_of-result : goal.invariant_of-result
-invariant_of-result c =
-    let w = world_of c.args.hosts in
+pub returns : goal.returns
+returns c =
+    let w = world_of c.args.hosts.now in
     let a = sym c.new.ensures in
     let b = sym c.new-2.ensures in
     record {
@@ -18,22 +18,4 @@ invariant_of-result c =
       one = subst Rested b (fresh_rested 1 false);
       few = omega arith;
       whole = subst₂ (λ x y. Whole 0 0 [] x y (seated 0 w)) a b (start_whole w c.requires);
-    }
-
-pub returns-clause-plays : goal.returns-clause-plays
-returns-clause-plays c =
-    let w = world_of c.args.hosts in
-    let a = sym c.new.ensures in
-    let b = sym c.new-2.ensures in
-    record {
-      zero = c.new.result;
-      one = c.new-2.result;
-      rounds = 0;
-      playing = record {
-        up = c.requires.7;
-        zero = subst Rested a (fresh_rested 0 true);
-        one = subst Rested b (fresh_rested 1 false);
-        few = omega arith;
-        whole = subst₂ (λ x y. Whole 0 0 [] x y (seated 0 w)) a b (start_whole w c.requires);
-      };
     }
