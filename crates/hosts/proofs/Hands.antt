@@ -25,12 +25,12 @@ use Rattle.hosts.specs.Follows.{world_of, HandsNext, Hands, HandsOver, Hears, Fo
 use Rattle.hosts.proofs.Plans.{as_planned, follows_does, err_case}
 
 -- the first letter is handed over, if there is one
-head_none : (xs : List (List ℕ)) (l : List ℕ) → None ≡ slice_get xs 0 → head_is xs false l
+pub head_none : (xs : List (List ℕ)) (l : List ℕ) → None ≡ slice_get xs 0 → head_is xs false l
 unfolding head_is
 head_none [] l e = refl
 head_none (x ∷ xs) l e = absurd (none-some x e)
 
-head_some : (xs : List (List ℕ)) (l : List ℕ) → Some l ≡ slice_get xs 0 → head_is xs true l
+pub head_some : (xs : List (List ℕ)) (l : List ℕ) → Some l ≡ slice_get xs 0 → head_is xs true l
 unfolding head_is
 head_some [] l e = absurd (none-some l (sym e))
 head_some (x ∷ xs) l e = (refl, ap (λ o. unwrap_or o l) e)

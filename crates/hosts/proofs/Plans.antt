@@ -47,15 +47,19 @@ err_case P (Ok x) e f = absurd (false≢true e)
 err_case P (Err x) e f = f x
 
 -- a call that gave an error gave no value
-fails : {A E : Type 0} (r : Result A E) → is_err r ≡ true → is_ok r ≡ false
+pub fails : {A E : Type 0} (r : Result A E) → is_err r ≡ true → is_ok r ≡ false
 fails r e = err_case (λ r. is_ok r ≡ false) r e (λ _. refl)
 
 pub no_value : {A E V : Type 0} (r : Result A E) → is_err r ≡ true → is_ok r ≡ true → V
 no_value r e t = absurd (false≢true (sym (fails r e) ∙ t))
 
 -- a fall over an ask, whatever that would have done
-pub falls_as : {A E : Type 0} {h : Hosts} {d : World} {p : Plan} {s : Story} {g : Hosts} (r : Result A E) → is_err r ≡ true → Follows h d p s false g → Follows h d p s (is_ok r) g
-falls_as {h = h} {d = d} {p = p} {s = s} {g = g} r e f = subst (λ x. Follows h d p s x g) (sym (fails r e)) f
+pub falls_as : {h : Hosts} {d : World} {p : Plan} {s : Story} {b : Bool} {g : Hosts} → b ≡ false → Follows h d p s false g → Follows h d p s b g
+falls_as {h = h} {d = d} {p = p} {s = s} {g = g} e f = subst (λ x. Follows h d p s x g) (sym e) f
+
+-- the same, of a call that gave an error
+pub falls_with : {A E : Type 0} {h : Hosts} {d : World} {p : Plan} {s : Story} {g : Hosts} (r : Result A E) → is_err r ≡ true → Follows h d p s false g → Follows h d p s (is_ok r) g
+falls_with r e f = falls_as (fails r e) f
 
 -- an ask that is done, from how it began to how it ended: what was done made the world w of d
 pub ended_as : {h m g : Hosts} {due b : Bool} {d w : World} {p : Plan} {s t : Story} → Began h due m →

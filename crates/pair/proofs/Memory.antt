@@ -1,9 +1,11 @@
 -- The guest's memory become another; and hosts on which nothing has happened.
 -- Assumes nothing.
-use Rattle.std.proofs.Common.{◌≡◌, ℕ, ◌≤◌, min, false, cond, eqb, List, [], length, get_or, take, refl, ap, ◌∙◌, inl, inr, arith}
+use Rattle.std.proofs.Common.{◌≡◌, ℕ, ◌≤◌, min, false, cond, eqb, List, [], length, get_or, take, sym, refl, ap, ◌∙◌, inl, inr, arith}
 use Rattle.std.proofs.lemmas.Bool.{cases_lt, cond_both}
 use Rattle.std.proofs.lemmas.List.{get_or_past, get_or-take, length-take}
 use Rattle.moving.specs.Hosts.{Host, World}
+use Rattle.who.specs.declared.Who.{Who}
+use Rattle.who.specs.declared.Who.TheVariants.{Zero, One}
 use Rattle.who.specs.Numbers.{numb}
 use Rattle.side.specs.declared.Side.{Side}
 use Rattle.side.specs.Sides.{blank, size_of, host, Fresh}
@@ -28,6 +30,11 @@ truth_is h xs t size is =
 
 past_page : (n : ℕ) (xs : List (List ℕ)) (j : ℕ) → n ≤ j → get_or (take n xs) j blank ≡ blank
 past_page n xs j le = get_or_past (take n xs) j blank (simp length-take (omega arith))
+
+-- past the last page there's nothing
+pub past_pages : (h : Pair) (v : Who) (j : ℕ) → room h ≤ j → ((world_of h).host (numb v)).page j ≡ (world_of h).truth j
+past_pages h Zero j le = past_page (room h) h.zero.pages.now j le ∙ sym (past_page (room h) h.truth.now j le)
+past_pages h One j le = past_page (room h) h.one.pages.now j le ∙ sym (past_page (room h) h.truth.now j le)
 
 -- two hosts on which nothing has happened
 abbrev Starts : Host → Type 0

@@ -1,10 +1,10 @@
 use Rattle.std.proofs.Common.{refl, ap, ◌∙◌}
 use Rattle.moving.specs.Hosts.{kept}
-use Rattle.hosts.proofs.Plans.{follows_does, falls_as, ended_as}
+use Rattle.hosts.proofs.Plans.{follows_does, falls_with, ended_as}
 use Rattle.hosts.proofs.HostsPlace.keep.Goals as goal
 
 pub returns-in_err-due : goal.returns-in_err-due
-returns-in_err-due c = let k = falls_as _ c.from_residual.ensures.0 (c.in_err-due.ensures _ _ _) in record { does = follows_does k; planned = k }
+returns-in_err-due c = let k = falls_with _ c.from_residual.ensures.0 (c.in_err-due.ensures _ _ _) in record { does = follows_does k; planned = k }
 
 pub returns : goal.returns
 returns c =

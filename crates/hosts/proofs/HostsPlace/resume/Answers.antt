@@ -5,7 +5,7 @@ use Rattle.moving.specs.Hosts.{resumed}
 use Rattle.pair.specs.Worlds.{Same}
 use Rattle.hosts.specs.Stories.{story_of}
 use Rattle.hosts.specs.Follows.{world_of, resume_told}
-use Rattle.hosts.proofs.Plans.{follows_does, falls_as, as_planned, ended_as}
+use Rattle.hosts.proofs.Plans.{follows_does, falls_with, as_planned, ended_as}
 use Rattle.hosts.proofs.HostsPlace.resume.Goals as goal
 
 pub returns-in_err-due : goal.returns-in_err-due
@@ -13,8 +13,8 @@ returns-in_err-due c =
     let e = c.from_residual.ensures.0 in
     let h = c.args.self.now in
     record {
-      does = follows_does (falls_as _ e (c.in_err-due.ensures (resumed c.args.x (world_of h)) h.plan (story_of h.log)));
-      planned = record { right = λ _. falls_as _ e (c.in_err-due.ensures _ _ _); wrong = λ _. falls_as _ e (c.in_err-due.ensures _ _ _) };
+      does = follows_does (falls_with _ e (c.in_err-due.ensures (resumed c.args.x (world_of h)) h.plan (story_of h.log)));
+      planned = record { right = λ _. falls_with _ e (c.in_err-due.ensures _ _ _); wrong = λ _. falls_with _ e (c.in_err-due.ensures _ _ _) };
     }
 
 pub returns : goal.returns

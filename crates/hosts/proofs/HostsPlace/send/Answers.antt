@@ -3,7 +3,7 @@ use Rattle.moving.specs.Hosts.{Sends}
 use Rattle.plan.specs.Plans.{post_of, posted}
 use Rattle.hosts.specs.Stories.{story_of}
 use Rattle.hosts.specs.Follows.{world_of, sent_by, lose_told, asked_now}
-use Rattle.hosts.proofs.Plans.{follows_does, falls_as, as_planned}
+use Rattle.hosts.proofs.Plans.{follows_does, falls_with, as_planned}
 use Rattle.hosts.proofs.Posts.{posts_none, posts_of, sent_counted}
 use Rattle.hosts.proofs.HostsPlace.send.Goals as goal
 
@@ -11,7 +11,7 @@ pub returns-in_err-due : goal.returns-in_err-due
 returns-in_err-due c =
     let h = c.args.self.now in
     let e = c.from_residual.ensures.0 in
-    record { posts = posts_none _ _ _ _ (λ d. follows_does (falls_as _ e (c.in_err-due.ensures d h.plan (story_of h.log)))); planned = λ _. falls_as _ e (c.in_err-due.ensures _ _ _) }
+    record { posts = posts_none _ _ _ _ (λ d. follows_does (falls_with _ e (c.in_err-due.ensures d h.plan (story_of h.log)))); planned = λ _. falls_with _ e (c.in_err-due.ensures _ _ _) }
 
 pub returns : goal.returns
 returns c =
