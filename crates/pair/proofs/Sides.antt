@@ -9,8 +9,6 @@ use Rattle.queue.specs.Queues.{letters_of}
 use Rattle.who.specs.declared.Who.{Who}
 use Rattle.who.specs.declared.Who.TheVariants.{Zero, One}
 use Rattle.who.specs.Numbers.{numb}
-use Rattle.who.specs.contracts.Who.{the_type}
-use denote.Enum.Bare.{sameb}
 use Rattle.side.specs.declared.Mix.{Mix}
 use Rattle.side.specs.declared.Side.{Side}
 use Rattle.side.specs.Sides.{blank, size_of, host, link_by, roughened, Turns, Linked, Posted, Nexts, Fell}
@@ -50,13 +48,6 @@ host_is h One = refl
 pub room_fits : (h : Pair) (v : Who) → room h ≤ size_of (side_of v h)
 room_fits h Zero = omega arith
 room_fits h One = omega arith
-
--- two hosts are the same just if their numbers are
-pub same_host : (a b : Who) → sameb the_type a b ≡ eqb (numb a) (numb b)
-same_host Zero Zero = refl
-same_host Zero One = refl
-same_host One Zero = refl
-same_host One One = refl
 
 -- f was done to it
 pub turns : (k : ℕ) (h : Pair) (v : Who) (f : Host → Host) (z : Side) → Turns k (side_of v h) f z → k ≤ room h →

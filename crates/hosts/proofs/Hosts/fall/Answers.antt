@@ -5,7 +5,7 @@ use Rattle.hosts.specs.Stories.{noted, story_of}
 use Rattle.hosts.specs.Follows.{world_of}
 use Rattle.pair.specs.Worlds as pair
 use Rattle.pair.specs.Worlds.{FallenWith}
-use Rattle.pair.proofs.Sides.{same_host}
+use Rattle.who.proofs.Same.{same_host}
 use Rattle.hosts.proofs.Plans.{who_numb}
 use Rattle.hosts.proofs.Hosts.fall.Goals as goal
 

@@ -1,7 +1,8 @@
 use Rattle.std.proofs.Common.{true, not, ◌&&◌, ◌||◌, ap, ◌∙◌}
 use Rattle.moving.specs.Hosts.{with_turn, with_guest}
 use Rattle.pair.specs.Worlds.{world_of}
-use Rattle.pair.proofs.Sides.{same_host, fallen_from}
+use Rattle.who.proofs.Same.{same_host}
+use Rattle.pair.proofs.Sides.{fallen_from}
 use Rattle.pair.proofs.Pair.fall.Goals as goal
 
 pub returns : goal.returns

@@ -1,7 +1,7 @@
 use Rattle.std.proofs.Common.{true, false, ◌&&◌, eqb, ap, ◌∙◌}
 use Rattle.moving.specs.Hosts.{with_guest}
 use Rattle.pair.specs.Worlds.{world_of}
-use Rattle.pair.proofs.Sides.{same_host}
+use Rattle.who.proofs.Same.{same_host}
 use Rattle.pair.proofs.Pair.resume.Goals as goal
 
 pub returns : goal.returns
