@@ -1,13 +1,13 @@
 -- The bits of a list of words: after one was changed, and how many are set.
-use Rattle.std.proofs.Common.{◌≡◌, ℕ, zero, suc, ◌+◌, ◌-◌, ◌*◌, ◌/◌, ◌%◌, ◌^◌, ◌<◌, ◌≤◌, false, not, cond, ◌&&◌, ◌||◌, eqb, List, [], ◌∷◌, length, get_or, set, replicate, sym, refl, ap, ◌∙◌, inl, inr, arith, one-add, get_or-set_other, get_or-set_same, w64, bit_and, bit_or}
+use Rattle.std.proofs.Common.{◌≡◌, ℕ, zero, suc, ◌+◌, ◌-◌, ◌*◌, ◌/◌, ◌%◌, ◌^◌, ◌<◌, ◌≤◌, true, false, not, cond, ◌&&◌, ◌||◌, eqb, ltb, List, [], ◌∷◌, length, get_or, set, replicate, sym, refl, ap, ◌∙◌, inl, inr, arith, one-add, get_or-set_other, get_or-set_same, w64, bit_and, bit_or, bit_xor}
 use native.Mathlib.Nat.{zero-div}
 use lib.Count.{ones}
 use Rattle.std.specs.List.{sum_by}
 use Rattle.std.proofs.lemmas.Nat.{pow_pos, shr_split, shr_below, mod_below, ones_cat}
-use Rattle.std.proofs.lemmas.Nat.Bits.{shr_and_one, bit_at_set_same, bit_at_set_other, bit_at_clear_same, bit_at_clear_other, bit_at_cat_low}
+use Rattle.std.proofs.lemmas.Nat.Bits.{shr_and_one, bit_at_set_same, bit_at_set_other, bit_at_clear_same, bit_at_clear_other, bit_at_cat_low, bit_at_xor, bit_at-pow_same, bit_at-pow_other}
 use Rattle.std.proofs.lemmas.List.{get_or-replicate, get_or_past}
 use Rattle.std.proofs.lemmas.List.Sums.{sum_by-cons}
-use Rattle.std.proofs.lemmas.Bool.{cases_eq, cases_lt, eq-eqb, ne_eqb}
+use Rattle.std.proofs.lemmas.Bool.{cases_eq, cases_lt, eq-eqb, eqb-true, ne_eqb}
 use Rattle.std.proofs.lemmas.Bool.Decides.{nat_tests}
 use Rattle.pageset.specs.Count.{bit, count}
 use Rattle.pageset.specs.Member.{bit_of, bit_at}
@@ -44,6 +44,19 @@ removed xs p q h =
     let e = written xs p _ 0 h (bit_at_clear_same w64 x (p % 64) w) (bit_at_clear_other w64 x (p % 64) w) q in
     grind (arith, nat_tests)
 
+-- The same of a word in which bit p % 64 is turned, where page p is in the set: then it is out, and all others stay.
+pub removed_by_xor : (xs : List ℕ) (p q : ℕ) → p / 64 < length xs → bit_at xs p ≡ true
+    → bit_at (set xs (p / 64) (bit_xor (get_or xs (p / 64) 0) (2 ^ (p % 64)))) q ≡ (not (eqb q p) && bit_at xs q)
+unfolding bit_at
+removed_by_xor xs p q h was =
+    let x = get_or xs (p / 64) 0 in
+    let b = p % 64 in
+    let was_one = eqb-true (x / 2 ^ b % 2) 1 was in
+    let e =
+        written xs p (bit_xor x (2 ^ b)) 0 h (bit_at_xor x (2 ^ b) b ∙ omega (arith, bit_at-pow_same b))
+        (λ k l n. bit_at_xor x (2 ^ b) k ∙ omega (arith, bit_at-pow_other b k n)) q in
+    grind (arith, nat_tests)
+
 -- the test of a bit
 pub held : (xs : List ℕ) (p : ℕ) → eqb (bit_and (get_or xs (p / 64) 0 / 2 ^ (p % 64)) 1) 1 ≡ bit_at xs p
 unfolding bit_at
@@ -61,6 +74,10 @@ nothing q =
       | inl h ↦ rw (get_or-replicate {A = ℕ} 64 (q / 64) 0 0 h, zero-div (2 ^ (q % 64)))
       | inr h ↦ past (replicate {A = ℕ} 64 0) q h
     ]
+
+-- The pages below p and page p are the pages below p + 1.
+pub below_more : (q p : ℕ) → (eqb q p || ltb q p) ≡ ltb q (p + 1)
+below_more q p = grind (arith, nat_tests)
 
 -- HOW MANY: the set bits of a word, and then of one word after the other
 pub ones_count : (k n : ℕ) → n < 2 ^ k → ones n ≡ count (bit_of n) k
