@@ -1,7 +1,8 @@
 -- The part of a list that begins at h and has at most c elements: how long it is, what stands in it, and what becomes of it.
 -- Assumes nothing.
-use Rattle.std.proofs.Common.{◌≡◌, ℕ, zero, suc, ◌+◌, ◌-◌, ◌<◌, ◌≤◌, min, List, [], ◌∷◌, ◌++◌, length, take, drop, set, sym, refl, ap, ◌∙◌, arith, length-drop, length-take}
-use Rattle.std.proofs.lemmas.List.{take_more_set, drop-set-add, drop_more, drop_min}
+use Rattle.std.proofs.Common.{◌≡◌, ℕ, zero, suc, ◌+◌, ◌-◌, ◌<◌, ◌≤◌, min, List, [], ◌∷◌, ◌++◌, length, take, drop, set, sym, refl, ap, ◌∙◌, inl, inr, arith, length-drop, length-take}
+use Rattle.std.proofs.lemmas.List.{take_more_set, drop-set-add, drop_more, drop_min, take-set-le, set_past}
+use Rattle.std.proofs.lemmas.Bool.{cases_lt}
 use Rattle.std.proofs.Math.Seq.{paste, take-set-lt}
 use Rattle.std.proofs.lemmas.List.Edits.{take-paste}
 use Rattle.std.specs.List.{copy_within}
@@ -36,8 +37,13 @@ row_push xs h n l ys lt e =
     ap (take (n + 1)) (drop-set-add h xs n l) ∙ take_more_set (drop h xs) n l (simp length-drop (omega arith)) ∙ ap (λ r. r ++ l ∷ []) e
 
 -- another one at place i
-pub row_set : {A : Type 0} (c h : ℕ) (xs : List A) (i : ℕ) (v : A) → i < c → take c (drop h (set xs (h + i) v)) ≡ set (take c (drop h xs)) i v
-row_set c h xs i v lt = ap (take c) (drop-set-add h xs i v) ∙ take-set-lt c (drop h xs) i v lt
+pub row_set : {A : Type 0} (c h : ℕ) (xs : List A) (i : ℕ) (v : A) → take c (drop h (set xs (h + i) v)) ≡ set (take c (drop h xs)) i v
+row_set c h xs i v =
+    ap (take c) (drop-set-add h xs i v)
+    ∙ elim (cases_lt i c) [
+      | inl lt ↦ take-set-lt c (drop h xs) i v lt
+      | inr le ↦ take-set-le c (drop h xs) i v le ∙ sym (set_past (take c (drop h xs)) i v (simp length-take (omega arith)))
+    ]
 
 -- without the first
 pub row_rest : (xs : List (List ℕ)) (h c : ℕ) → h < length xs → 0 < c → take (c - 1) (drop (h + 1) xs) ≡ rest' (take c (drop h xs))
