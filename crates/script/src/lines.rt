@@ -1,5 +1,5 @@
 // A line as it comes in.
-ghost use Rattle.std.specs.Prelude.{◌≡◌, ℕ, List, [], ◌∷◌, ◌++◌, Decides, Some};
+ghost use Rattle.std.specs.Prelude.{◌≡◌, ℕ, ◌≤◌, List, [], ◌∷◌, ◌++◌, length, Decides, IfSome, Some};
 ghost use Rattle.script.specs.Lines.{Holds, pushed};
 ghost use Rattle.script.specs.Spelling.{Says};
 
@@ -16,12 +16,14 @@ pub struct Line {
 }
 
 impl Model for Line {
-    ghost use Rattle.std.specs.Prelude.{ℕ, List, Option};
+    ghost use Rattle.std.specs.Prelude.{ℕ, ◌≤◌, List, length, IfSome, Option};
     ghost use Rattle.std.specs.Option.{option_map};
 
     ghost Value = { Option (List ℕ) };
 
     ghost view = { λ line. option_map (λ bytes. bytes.items) line.bytes };
+
+    ghost invariant = { λ line. IfSome line.bytes (λ bytes. length bytes.items ≤ 64) };
 }
 
 impl Line {
@@ -53,9 +55,10 @@ impl Line {
         *self = Line::new();
     }
 
-    // Whether the line has no byte.
+    // Whether the line has no byte. (`short` is so of every line, and stands here because a caller sees of a line its value alone.)
     pub fn is_empty(&self) -> bool
-        ensures { Decides result (self.now ≡ Some []) }
+        ensures is { Decides result (self.now ≡ Some []) }
+        ensures short { IfSome self.now (λ bs. length bs ≤ 64) }
     {
         self.bytes.as_ref().is_some_and(|bytes| bytes.is_empty())
     }
