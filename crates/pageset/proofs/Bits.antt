@@ -53,8 +53,8 @@ removed_by_xor xs p q h was =
     let b = p % 64 in
     let was_one = eqb-true (x / 2 ^ b % 2) 1 was in
     let e =
-        written xs p (bit_xor x (2 ^ b)) 0 h (bit_at_xor x (2 ^ b) b ∙ omega (arith, bit_at-pow_same b))
-        (λ k l n. bit_at_xor x (2 ^ b) k ∙ omega (arith, bit_at-pow_other b k n)) q in
+    written xs p (bit_xor x (2 ^ b)) 0 h (bit_at_xor x (2 ^ b) b ∙ omega (arith, bit_at-pow_same b))
+    (λ k l n. bit_at_xor x (2 ^ b) k ∙ omega (arith, bit_at-pow_other b k n)) q in
     grind (arith, nat_tests)
 
 -- the test of a bit

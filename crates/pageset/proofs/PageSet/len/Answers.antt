@@ -17,5 +17,7 @@ pub returns : goal.returns
 returns c =
     let ws = c.args.self.now.words in
     let e : 64 * length ws ≡ 4096 = omega arith in
+    let n =
     sum_by_from_yields_List held_in ws c.map.result c.sum.result c.sum.ensures.ran (YieldsList-from_map _ held_in (YieldsList-from_slice ws cc) c.map.ensures.closure (λ x r q k. search rules))
-    ∙ words_count ws ∙ ap (count (bit_at ws)) e
+    ∙ words_count ws ∙ ap (count (bit_at ws)) e in
+    omega (arith, n, count_most (bit_at ws) 4096)
