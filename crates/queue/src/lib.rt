@@ -58,7 +58,7 @@ impl<'a> Queue<'a> {
         }
         self.gather(n);
         let at = self.head + n;
-        self.slots[at] = *letter;
+        self.slots[at].copy_from_slice(letter);
         self.count = n + 1;
         Ok(())
     }
@@ -124,6 +124,6 @@ impl<'a> Queue<'a> {
             return;
         }
         let at = self.head + i;
-        self.slots[at] = *letter;
+        self.slots[at].copy_from_slice(letter);
     }
 }
