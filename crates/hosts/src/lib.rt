@@ -340,13 +340,13 @@ fn whole<const N: usize>(words: &[u64]) -> &[u64; N]
 }
 
 // A letter, if it is one, is put where it's asked for; whether it is one: the trait, whose text is fixed, wants it so.
-fn put_into(letter: Option<[u64; 72]>, into: &mut [u64]) -> bool
+fn put_into(letter: &Option<[u64; 72]>, into: &mut [u64]) -> bool
     requires { length into.old ≡ 72 }
-    ensures { MatchOption letter (result ≡ false) (λ l. (result ≡ true) × (into.new ≡ l)) }
+    ensures { MatchOption letter.now (result ≡ false) (λ l. (result ≡ true) × (into.new ≡ l)) }
 {
     match letter {
         Some(letter) => {
-            into.copy_from_slice(&letter);
+            into.copy_from_slice(letter);
             true
         }
         None => false,
@@ -474,7 +474,8 @@ impl<'a> Place for Hosts<'a> {
         ensures planned { MatchResult result (λ b. Hears self.old b into.new true self.new) (λ _. FallsHearing self.old self.new) }
     {
         let due = self.begin()?;
-        let got = put_into(self.hand(), into);
+        let letter = self.hand();
+        let got = put_into(&letter, into);
         self.end(due)?;
         Ok(got)
     }

@@ -19,7 +19,7 @@ returns-in_err-end c =
     let h = c.args.self.now in
     let e = c.from_residual-in_err-end.ensures.0 in
     let begun = c.in_ok-due.ensures in
-    let got = c.hand.ensures in
+    let got = c.hand-letter.ensures in
     let hands = handed_into _ _ _ _ _ _ got.hands c.put_into-got.ensures in
     let k = hears_of h _ _ _ _ _ _ _ _ _ begun hands got.plan got.story (λ d e. c.in_err-end.ensures h d begun.up begun.fate e) in
     record { gets = hears_falls _ _ e k; planned = MatchResult-from_err _ _ _ e (λ _. inr (_, _, k)) }
@@ -28,7 +28,7 @@ pub returns : goal.returns
 returns c =
     let h = c.args.self.now in
     let begun = c.in_ok-due.ensures in
-    let got = c.hand.ensures in
+    let got = c.hand-letter.ensures in
     let hands = handed_into _ _ _ _ _ _ got.hands c.put_into-got.ensures in
     let k = hears_of h _ _ _ _ _ _ _ _ _ begun hands got.plan got.story (λ d e. c.in_ok-end.ensures h d begun.up begun.fate e) in
     record { gets = hears_gets k; planned = k }
