@@ -21,7 +21,7 @@ use Rattle.plan.specs.declared.Hand.TheVariants.{Next, Again, Mixed}
 use Rattle.plan.specs.Plans.{hand_of, handed}
 use Rattle.hosts.specs.declared.Hosts.{Hosts}
 use Rattle.hosts.specs.Stories.{Story, story_of}
-use Rattle.hosts.specs.Follows.{world_of, HandsNext, Hands, HandsOver, Hears, Follows, Began, asked_now}
+use Rattle.hosts.specs.Follows.{world_of, HandsNext, Hands, Hears, Follows, Began, asked_now}
 use Rattle.hosts.proofs.Plans.{as_planned, follows_does, err_case}
 
 -- the first letter is handed over, if there is one
@@ -35,34 +35,24 @@ unfolding head_is
 head_some [] l e = absurd (none-some l (sym e))
 head_some (x ∷ xs) l e = (refl, ap (λ o. unwrap_or o l) e)
 
-next_over : (w : World) (r : Option (List ℕ)) (v : World) → NextIn w.turn w r v → HandsOver Next w r v
-next_over w None v n = λ l. (head_none (me w).row l n.first, n.is)
-next_over w (Some l) v n = (head_some (me w).row l n.first, n.is)
+pub next_none : (w : World) (l : List ℕ) (v : World) → NextIn w.turn w None v → HandsNext w false l v
+next_none w l v n = (head_none (me w).row l n.first, n.is)
 
-pub next_as : (x : Hand) (w : World) (r : Option (List ℕ)) (v : World) → Next ≡ x → NextIn w.turn w r v → HandsOver x w r v
-next_as x w r v e n = subst (λ y. HandsOver y w r v) e (next_over w r v n)
+pub next_some : (w : World) (k l : List ℕ) (v : World) → NextIn w.turn w (Some k) v → l ≡ k → HandsNext w true l v
+next_some w k l v n e = subst (λ x. HandsNext w true x v) (sym e) (head_some (me w).row k n.first, n.is)
 
 -- a letter that is kept is
-pub again_some : (i : ℕ) (w : World) (l : List ℕ) (v : World) → Some l ≡ slice_get (me w).old (i % length (me w).old) → v ≡ roughened w → HandsOver (Again i) w (Some l) v
-again_some i w l v e r =
-    let lt = slice_get_within (me w).old _ l (sym e) in
-    (λ z. absurd (omega arith), λ _. (refl, sym (get_or_from_slice_get (me w).old _ l [] (sym e)), r))
+pub again_some : (i : ℕ) (w : World) (k l : List ℕ) (v : World) → Some k ≡ slice_get (me w).old (i % length (me w).old) → l ≡ k → v ≡ roughened w → Hands (Again i) w true l v
+again_some i w k l v e f r =
+    let lt = slice_get_within (me w).old _ k (sym e) in
+    (λ z. absurd (omega arith), λ _. (refl, f ∙ sym (get_or_from_slice_get (me w).old _ k [] (sym e)), r))
 
 -- where none is, it's the next
-pub again_none : (i : ℕ) (w : World) (r : Option (List ℕ)) (v : World) → None ≡ slice_get (me w).old (i % length (me w).old) → NextIn w.turn w r v → HandsOver (Again i) w r v
-again_none i w r v e n = over r (next_over w r v n)
+pub again_next : (i : ℕ) (w : World) (b : Bool) (l : List ℕ) (v : World) → None ≡ slice_get (me w).old (i % length (me w).old) → HandsNext w b l v → Hands (Again i) w b l v
+again_next i w b l v e h = (λ _. h, λ lt. absurd (empty lt))
   where
     empty : 0 < length (me w).old → ⊥
     empty lt = none-some _ (e ∙ slice_get-get_or (me w).old _ [] (round_below i (me w).old lt))
-
-    over : (r : Option (List ℕ)) → HandsOver Next w r v → HandsOver (Again i) w r v
-    over None h = λ l. (λ _. h l, λ lt. absurd (empty lt))
-    over (Some l) h = (λ _. h, λ lt. absurd (empty lt))
-
--- what is handed over, as a letter in the memory for it
-pub handed_into : (x : Hand) (w : World) (r : Option (List ℕ)) (b : Bool) (l : List ℕ) (v : World) → HandsOver x w r v → MatchOption r (b ≡ false) (λ k. (b ≡ true) × (l ≡ k)) → Hands x w b l v
-handed_into x w None b l v h e = subst (λ y. Hands x w y l v) (sym e) (h l)
-handed_into x w (Some k) b l v h e = subst₂ (λ y z. Hands x w y z v) (sym e.0) (sym e.1) h
 
 next_gives : (w : World) (b : Bool) (l : List ℕ) (d : World) → HandsNext w b l d → Gives w b l d
 next_gives w b l d h = subst (Gives w b l) (sym h.1) (next b l h.0)

@@ -102,11 +102,6 @@ Hands Next w b l d = HandsNext w b l d
 Hands (Again i) w b l d = (length (me w).old ≡ 0 → HandsNext w b l d) × (0 < length (me w).old → (b ≡ true) × (l ≡ slice_index_or (me w).old (i % length (me w).old) []) × (d ≡ roughened w))
 Hands (Mixed m i) w b l d = (b ≡ false) × (d ≡ roughened (mixed_in m i w.turn w))
 
--- The same of an option: what is handed over is a letter, or there is none.
-abbrev pub HandsOver : Hand → World → Option (List ℕ) → World → Type 0
-HandsOver x w None d = (l : List ℕ) → Hands x w false l d
-HandsOver x w (Some l) d = Hands x w true l d
-
 -- Somebody wants the guest to be moved: it's told, if it runs and isn't to be moved already.
 abbrev pub wishes : Bool → World → World
 wishes b w = cond (b && w.runs && not w.wish) (wished w) w

@@ -9,7 +9,7 @@ ghost use Rattle.hosts.specs.Stories.{Story, story_of, noted};
 ghost use Rattle.pair.specs.Worlds.{world_of as pairWorld, closed};
 ghost use Rattle.plan.specs.Plans.{post_of, posted, hand_of, handed};
 ghost use Rattle.hosts.specs.Makes.{reason, guest_shown, refusal_of, memory_of, row_of, kept_of, Made, guest_of, repeated};
-ghost use Rattle.hosts.specs.Follows.{world_of, PlannedAsBefore, event, Fell, fills, Follows, Plain, Tells, resume_told, Resumes, lose_told, SentAs, sent_by, HandsOver, Hears, FallsHearing, wishes, BetweenAs, Began, Ended};
+ghost use Rattle.hosts.specs.Follows.{world_of, PlannedAsBefore, event, Fell, fills, Follows, Plain, Tells, resume_told, Resumes, lose_told, SentAs, sent_by, HandsNext, Hands, Hears, FallsHearing, wishes, BetweenAs, Began, Ended};
 
 pub mod log;
 pub mod memory;
@@ -290,20 +290,21 @@ impl<'a> Hosts<'a> {
         self.tell(What::Lose);
     }
 
-    // A letter for the host whose turn it is, if it gets one.
-    #[tactic(auto, using(crate::proofs::Hands::next_as))]
-    fn hand(&mut self) -> Option<[u64; 72]>
-        ensures hands { HandsOver (hand_of self.old.pair.turn self.old.plan) (world_of self.old) result (world_of self.new) }
+    // A letter for the host whose turn it is, if it gets one; whether it does. (It is put where it's asked for: as an option it would be moved about,
+    // 584 bytes at each step, also where there is none.)
+    fn hand(&mut self, into: &mut [u64]) -> bool
+        requires { length into.old ≡ 72 }
+        ensures hands { Hands (hand_of self.old.pair.turn self.old.plan) (world_of self.old) result into.new (world_of self.new) }
         ensures plan { self.new.plan ≡ handed self.old.pair.turn self.old.plan }
         ensures story { story_of self.new.log ≡ story_of self.old.log }
     {
         match self.plan.hand(self.pair.turn) {
-            Hand::Next => self.pair.next(),
-            Hand::Again(i) => again(&mut self.pair, i),
+            Hand::Next => next(&mut self.pair, into),
+            Hand::Again(i) => again(&mut self.pair, i, into),
             Hand::Mixed(how, i) => {
                 self.pair.mix(how, i as usize);
                 self.pair.roughen();
-                None
+                false
             }
         }
     }
@@ -319,16 +320,33 @@ impl<'a> Hosts<'a> {
     }
 }
 
-// The letter that is kept for the host whose turn it is at place i; the next where none is.
-#[tactic(auto, using(crate::proofs::Hands::again_some, crate::proofs::Hands::again_none))]
-fn again(pair: &mut Pair, i: u32) -> Option<[u64; 72]>
-    ensures { HandsOver (Hand.Again i) (pairWorld pair.old) result (pairWorld pair.new) }
+// The next letter for the host whose turn it is, if one waits.
+#[tactic(auto, using(crate::proofs::Hands::next_some, crate::proofs::Hands::next_none))]
+fn next(pair: &mut Pair, into: &mut [u64]) -> bool
+    requires { length into.old ≡ 72 }
+    ensures { HandsNext (pairWorld pair.old) result into.new (pairWorld pair.new) }
 {
-    let Some(letter) = pair.again(i as usize).copied() else {
-        return pair.next();
+    match pair.next() {
+        Some(letter) => {
+            into.copy_from_slice(&letter);
+            true
+        }
+        None => false,
+    }
+}
+
+// The letter that is kept for the host whose turn it is at place i; the next where none is.
+#[tactic(auto, using(crate::proofs::Hands::again_some, crate::proofs::Hands::again_next))]
+fn again(pair: &mut Pair, i: u32, into: &mut [u64]) -> bool
+    requires { length into.old ≡ 72 }
+    ensures { Hands (Hand.Again i) (pairWorld pair.old) result into.new (pairWorld pair.new) }
+{
+    let Some(letter) = pair.again(i as usize) else {
+        return next(pair, into);
     };
+    into.copy_from_slice(letter);
     pair.roughen();
-    Some(letter)
+    true
 }
 
 // As many words as there are, as an array.
@@ -337,20 +355,6 @@ fn whole<const N: usize>(words: &[u64]) -> &[u64; N]
     ensures { result.now ≡ words.now }
 {
     words.as_array().unwrap()
-}
-
-// A letter, if it is one, is put where it's asked for; whether it is one: the trait, whose text is fixed, wants it so.
-fn put_into(letter: &Option<[u64; 72]>, into: &mut [u64]) -> bool
-    requires { length into.old ≡ 72 }
-    ensures { MatchOption letter.now (result ≡ false) (λ l. (result ≡ true) × (into.new ≡ l)) }
-{
-    match letter {
-        Some(letter) => {
-            into.copy_from_slice(letter);
-            true
-        }
-        None => false,
-    }
 }
 
 // What a host may ask: what the trait says of it, and what is planned for it.
@@ -474,8 +478,7 @@ impl<'a> Place for Hosts<'a> {
         ensures planned { MatchResult result (λ b. Hears self.old b into.new true self.new) (λ _. FallsHearing self.old self.new) }
     {
         let due = self.begin()?;
-        let letter = self.hand();
-        let got = put_into(&letter, into);
+        let got = self.hand(into);
         self.end(due)?;
         Ok(got)
     }
