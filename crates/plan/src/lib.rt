@@ -90,23 +90,26 @@ fn mix(x: u64) -> Mix
 
 impl Chance {
     // In random play the generator goes on to its next word.
-    fn draw(self) -> Chance
-        ensures { result ≡ drawn self }
+    #[inline]
+    fn draw(&mut self)
+        ensures { self.new ≡ drawn self.old }
     {
-        let word = if self.random {
-            step(self.word)
-        } else {
-            self.word
-        };
-        Chance { word, ..self }
+        if self.random {
+            self.word = step(self.word);
+        }
     }
 
     // What a part of the word says, in random play.
+    #[inline]
     fn roll(self, by: u64, of: u64) -> Option<u32>
         requires { (0 < by) × ((0 < of) × (of ≤ 4096)) }
         ensures { result ≡ roll_of by of self }
     {
-        self.random.then_some(part(self.word, by, of))
+        if self.random {
+            Some(part(self.word, by, of))
+        } else {
+            None
+        }
     }
 
     fn falls(self, fall: Fall) -> Fate
@@ -139,7 +142,7 @@ impl Chance {
     fn fills(self, least: u32, pages: u32) -> Option<Write>
         ensures { result ≡ page_by (self.random && nat_le least (part_of 65536 16 self.word)) self.word pages }
     {
-        if !self.roll(65536, 16).is_some_and(|n| n >= least) {
+        if self.roll(65536, 16)? < least {
             return None;
         }
         let page = part(self.word, 1048576, 4096).checked_rem(pages)?;
@@ -152,13 +155,11 @@ impl Chance {
 
 impl Fall {
     // One ask less is left.
-    fn less(self) -> Fall
-        ensures { result ≡ less self }
+    #[inline]
+    fn less(&mut self)
+        ensures { self.new ≡ less self.old }
     {
-        Fall {
-            ask: self.ask.saturating_sub(1),
-            ..self
-        }
+        self.ask = self.ask.saturating_sub(1);
     }
 }
 
@@ -175,11 +176,11 @@ impl Plan {
         ensures fate { result ≡ fate_of who self.old }
         ensures left { self.new ≡ asked who self.old }
     {
-        self.chance = self.chance.draw();
+        self.chance.draw();
         let fall = self.fall(who);
         match who {
-            Who::Zero => self.zero = fall.less(),
-            Who::One => self.one = fall.less(),
+            Who::Zero => self.zero.less(),
+            Who::One => self.one.less(),
         }
         self.chance.falls(fall)
     }
@@ -239,7 +240,7 @@ impl Plan {
         ensures wish { result ≡ wish_of self.old }
         ensures left { self.new ≡ wished self.old }
     {
-        self.chance = self.chance.draw();
+        self.chance.draw();
         std::mem::take(&mut self.wish) || self.chance.roll(4096, 4) == Some(0)
     }
 
