@@ -124,6 +124,6 @@ impl<'a> Queue<'a> {
             return;
         }
         let at = self.head + i;
-        self.slots[at].copy_from_slice(letter);
+        self.slots[at] = *letter;
     }
 }

@@ -168,7 +168,7 @@ impl<'a> Side<'a> {
         requires { p < size_of self.old }
         ensures { Turns (p + 1) self.old (put_by p words.now) self.new }
     {
-        self.pages[p].copy_from_slice(words);
+        self.pages[p] = *words;
     }
 
     // The guest writes a page.
@@ -176,7 +176,7 @@ impl<'a> Side<'a> {
         requires { p < size_of self.old }
         ensures { Turns (p + 1) self.old (wrote_by p words.now) self.new }
     {
-        self.pages[p].copy_from_slice(words);
+        self.pages[p] = *words;
         self.touched[p] = true;
     }
 

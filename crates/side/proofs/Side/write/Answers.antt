@@ -14,8 +14,7 @@ returns c =
       size = search rules;
       is = λ n h le.
           ap (λ f. host_of f (λ j. get_or (take n (set s.touched.now p true)) j false) (host n s).cell s.told (host n s).row (host n s).old)
-          (taken_put blank n s.pages.now p c.copy_from_slice.new.self (omega arith) (omega arith)
-          ∙ ap (λ us. put p us (host n s).page) c.copy_from_slice.ensures.after)
+          (taken_put blank n s.pages.now p ws (omega arith) (omega arith))
           ∙ ap (λ f. host_of (put p ws (host n s).page) f (host n s).cell s.told (host n s).row (host n s).old)
           (taken_put false n s.touched.now p true (omega arith) (omega arith));
     }
