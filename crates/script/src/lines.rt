@@ -41,10 +41,10 @@ impl Line {
         ensures bytes { self.new ≡ pushed self.old b }
         ensures all { (bs : List ℕ) → Holds self.old bs → Holds self.new (bs ++ b ∷ []) }
     {
-        if let Some(bytes) = &mut self.bytes
-            && bytes.try_push(b).is_err()
-        {
+        if self.bytes.as_ref().is_some_and(|bytes| bytes.is_full()) {
             self.bytes = None;
+        } else if let Some(bytes) = &mut self.bytes {
+            bytes.push(b);
         }
     }
 
