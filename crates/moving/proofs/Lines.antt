@@ -60,12 +60,12 @@ page_now pages n t s p us l = rw (eq-eqb t t refl, eq-eqb s s refl, lt-ltb p pag
 page_before : (pages : ℕ) (n : Node) (t next s p : ℕ) (us : List ℕ) → s < next → heeded pages (said Page t s p us) (receiving n t next) ≡ receiving n t next
 page_before pages n t next s p us l = rw (eq-eqb t t refl, ne_eqb next s (λ e. omega arith))
 
--- pages at the places from s on, of which some may have come before: all are put
 -- a row of none leaves the node
 pub hears_none : (pages : ℕ) (n : Node) (r : List (List ℕ)) → r ≡ [] → hears pages n r ≡ n
 unfolding hears
 hears_none pages n r e = ap (hears pages n) e
 
+-- pages at the places from s on, of which some may have come before: all are put
 pub hears_pages : (pages : ℕ) (n : Node) (t s next : ℕ) (ps : List ℕ) (r : List (List ℕ)) → pages ≤ 4096 → Each pages ps → heads r ≡ page_heads t s ps → s ≤ next → next ≤ s + length ps → hears pages (receiving n t next) r ≡ receiving n t (s + length ps)
 unfolding page_heads heads hears
 hears_pages pages n t s next [] [] g a e l m = let d : next ≡ s + 0 = omega arith in ap (receiving n t) d

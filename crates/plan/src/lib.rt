@@ -3,7 +3,7 @@
 #![tactic(auto)]
 
 ghost use Rattle.std.specs.Prelude.{◌≡◌, ◌&&◌, nat_le, ℕ, ◌+◌, ◌-◌, ◌*◌, ◌/◌, ◌%◌, ◌<◌, ◌≤◌, Bool, true, false, cond, Option};
-ghost use Rattle.plan.specs.Plans.{stepped, drawn, part_of, roll_of, falls_by, less, mix_by, hand_by, fall_of, fate_of, asked, post_of, posted, hand_of, handed, wreck_of, write_of, wish_of, wished, page_by, writes_of, wrote, calm};
+ghost use Rattle.plan.specs.Plans.{stepped, drawn, part_of, roll_of, falls_by, less, mix_by, hand_by, fate_of, asked, post_of, posted, hand_of, handed, wreck_of, write_of, wish_of, wished, page_by, writes_of, wrote, calm};
 
 use side::{Mix, Post, Wreck};
 use who::Who;
@@ -161,6 +161,17 @@ impl Fall {
     {
         self.ask = self.ask.saturating_sub(1);
     }
+
+    // Its host asks for something: what becomes of it.
+    #[inline]
+    fn ask(&mut self, chance: Chance) -> Fate
+        ensures fate { result ≡ falls_by self.old chance }
+        ensures left { self.new ≡ less self.old }
+    {
+        let fate = chance.falls(*self);
+        self.less();
+        fate
+    }
 }
 
 impl Plan {
@@ -171,27 +182,15 @@ impl Plan {
         Plan::default()
     }
 
-    // A host asks for something: what becomes of it. (zero and one are fields that a caller sets by name; here, and in `fall`, a host's is picked.)
+    // A host asks for something: what becomes of it. (zero and one are fields that a caller sets by name; here a host's is picked.)
     pub fn ask(&mut self, who: Who) -> Fate
         ensures fate { result ≡ fate_of who self.old }
         ensures left { self.new ≡ asked who self.old }
     {
         self.chance.draw();
-        let fall = self.fall(who);
         match who {
-            Who::Zero => self.zero.less(),
-            Who::One => self.one.less(),
-        }
-        self.chance.falls(fall)
-    }
-
-    // The fall that is planned for a host.
-    fn fall(&self, who: Who) -> Fall
-        ensures { result ≡ fall_of who self.now }
-    {
-        match who {
-            Who::Zero => self.zero,
-            Who::One => self.one,
+            Who::Zero => self.zero.ask(self.chance),
+            Who::One => self.one.ask(self.chance),
         }
     }
 
